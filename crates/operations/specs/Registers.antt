@@ -1,0 +1,56 @@
+-- Registers: their numbers, what the fixed ones read, which are places, and where the rotating ones are. Assumes nothing.
+use mathlib.Core.Path.{_≡_, refl}
+use mathlib.Core.Bool.{Bool, true, false, cond}
+use Prim.Native.Nat.{ℕ, _+_, _%_, _<_}
+use native.Mathlib.Omega.{arith}
+use lib.Dec.{ltb, eqb}
+use borrow.Author.Tests.{ltb-true}
+use Rattle.std.specs.declared.option.Option.{Option}
+use Rattle.std.specs.declared.option.Option.the-variants.{Some, None}
+use Rattle.operations.specs.declared.number.RegisterNumber.{RegisterNumber}
+use Rattle.operations.specs.declared.register.General as general
+use Rattle.operations.specs.declared.register.General.{General}
+use Rattle.operations.specs.declared.register.Predicate as predicate
+use Rattle.operations.specs.declared.register.Predicate.{Predicate}
+use Rattle.operations.specs.declared.register.Register as register
+use Rattle.operations.specs.declared.register.Place.{Place}
+use Rattle.operations.specs.declared.register.Place.the-variants as place
+
+abbrev pub below : (n : ℕ) (b : Bool) → ltb n 32 ≡ b → Option RegisterNumber
+below n true e = Some (record { number = n; below = ltb-true n 32 e })
+below n false e = None
+
+-- the register number n: there is one for each n below 32
+abbrev pub numbered : ℕ → Option RegisterNumber
+numbered n = below n (ltb n 32) refl
+
+-- rotating register k, while rotating register 0 is the physical one `base`
+abbrev pub rotated : RegisterNumber → RegisterNumber → RegisterNumber
+rotated k base = record { number = (k .number + base .number) % 32; below = omega arith }
+
+-- r0 reads 0
+abbrev pub general-constant : General → Option ℕ
+general-constant (general.the-variants.Static n) = cond (eqb (n .number) 0) (Some 0) None
+general-constant (general.the-variants.Rotating n) = None
+
+-- p0 reads 0, p1 reads 1
+abbrev pub predicate-constant : Predicate → Option Bool
+predicate-constant (predicate.the-variants.Static n) = cond (eqb (n .number) 0) (Some false) (cond (eqb (n .number) 1) (Some true) None)
+predicate-constant (predicate.the-variants.Rotating n) = None
+
+-- any register but r0, p0 and p1 is a place
+abbrev pub general-place : General → Option Place
+general-place (general.the-variants.Static n) = cond (eqb (n .number) 0) None (Some (place.Register (register.the-variants.General (general.the-variants.Static n))))
+general-place (general.the-variants.Rotating n) = Some (place.Register (register.the-variants.General (general.the-variants.Rotating n)))
+
+abbrev pub predicate-place : Predicate → Option Place
+predicate-place (predicate.the-variants.Static n) = cond (ltb (n .number) 2) None (Some (place.Register (register.the-variants.Predicate (predicate.the-variants.Static n))))
+predicate-place (predicate.the-variants.Rotating n) = Some (place.Register (register.the-variants.Predicate (predicate.the-variants.Rotating n)))
+
+abbrev pub physical-general : RegisterNumber → General → General
+physical-general rrb (general.the-variants.Static n) = general.the-variants.Static n
+physical-general rrb (general.the-variants.Rotating n) = general.the-variants.Rotating (rotated n rrb)
+
+abbrev pub physical-predicate : RegisterNumber → Predicate → Predicate
+physical-predicate rrb (predicate.the-variants.Static n) = predicate.the-variants.Static n
+physical-predicate rrb (predicate.the-variants.Rotating n) = predicate.the-variants.Rotating (rotated n rrb)
