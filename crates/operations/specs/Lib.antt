@@ -1,2 +1,5 @@
 pub mod Registers
 pub mod Names
+pub mod Refusals
+pub mod Typing
+pub mod Access

@@ -1,10 +1,11 @@
 -- Registers: their numbers, what the fixed ones read, which are places, and where the rotating ones are. Assumes nothing.
 use mathlib.Core.Path.{_≡_, refl}
-use mathlib.Core.Bool.{Bool, true, false, cond}
+use mathlib.Core.Bool.{Bool, true, false, cond, _&&_}
 use Prim.Native.Nat.{ℕ, _+_, _%_, _<_}
 use native.Mathlib.Omega.{arith}
 use lib.Dec.{ltb, eqb}
 use borrow.Author.Tests.{ltb-true}
+use Rattle.std.specs.Options.{isSome}
 use Rattle.std.specs.declared.option.Option.{Option}
 use Rattle.std.specs.declared.option.Option.the-variants.{Some, None}
 use Rattle.operations.specs.declared.number.RegisterNumber.{RegisterNumber}
@@ -13,6 +14,7 @@ use Rattle.operations.specs.declared.register.General.{General}
 use Rattle.operations.specs.declared.register.Predicate as predicate
 use Rattle.operations.specs.declared.register.Predicate.{Predicate}
 use Rattle.operations.specs.declared.register.Register as register
+use Rattle.operations.specs.declared.register.Register.{Register}
 use Rattle.operations.specs.declared.register.Place.{Place}
 use Rattle.operations.specs.declared.register.Place.the-variants as place
 
@@ -54,3 +56,35 @@ physical-general rrb (general.the-variants.Rotating n) = general.the-variants.Ro
 abbrev pub physical-predicate : RegisterNumber → Predicate → Predicate
 physical-predicate rrb (predicate.the-variants.Static n) = predicate.the-variants.Static n
 physical-predicate rrb (predicate.the-variants.Rotating n) = predicate.the-variants.Rotating (rotated n rrb)
+
+abbrev pub same-predicate : Predicate → Predicate → Bool
+same-predicate (predicate.the-variants.Static m) (predicate.the-variants.Static n) = eqb (m .number) (n .number)
+same-predicate (predicate.the-variants.Static m) (predicate.the-variants.Rotating n) = false
+same-predicate (predicate.the-variants.Rotating m) (predicate.the-variants.Static n) = false
+same-predicate (predicate.the-variants.Rotating m) (predicate.the-variants.Rotating n) = eqb (m .number) (n .number)
+
+-- two predicates that are one place; p0 and p1 are none
+abbrev pub one-place : Predicate → Predicate → Bool
+one-place p q = isSome (predicate-place p) && same-predicate p q
+
+abbrev pub same-general : General → General → Bool
+same-general (general.the-variants.Static m) (general.the-variants.Static n) = eqb (m .number) (n .number)
+same-general (general.the-variants.Static m) (general.the-variants.Rotating n) = false
+same-general (general.the-variants.Rotating m) (general.the-variants.Static n) = false
+same-general (general.the-variants.Rotating m) (general.the-variants.Rotating n) = eqb (m .number) (n .number)
+
+abbrev pub same-register : Register → Register → Bool
+same-register (register.the-variants.General g) (register.the-variants.General h) = same-general g h
+same-register (register.the-variants.General g) (register.the-variants.Predicate q) = false
+same-register (register.the-variants.Predicate p) (register.the-variants.General h) = false
+same-register (register.the-variants.Predicate p) (register.the-variants.Predicate q) = same-predicate p q
+
+abbrev pub same-place : Place → Place → Bool
+same-place (place.Register x) (place.Register y) = same-register x y
+same-place (place.Register x) place.Memory = false
+same-place place.Memory (place.Register y) = false
+same-place place.Memory place.Memory = true
+
+abbrev pub is-place : Place → Option Place → Bool
+is-place p None = false
+is-place p (Some q) = same-place q p

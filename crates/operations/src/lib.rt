@@ -1,13 +1,35 @@
 // Registers and operations: what an operation reads, writes and does, and why a call is refused.
+mod access;
 mod names;
 mod number;
+mod operation;
+mod raw;
+mod refusal;
 mod register;
+mod same;
+mod targets;
+mod typing;
 
+pub use access::Class;
+pub use access::Reads;
+pub use access::Writes;
 pub use names::GeneralName;
 pub use names::PredicateName;
 pub use names::RegisterName;
 pub use number::RegisterNumber;
+pub use operation::Form;
+pub use operation::Operation;
+pub use operation::Source;
+pub use raw::Opcode;
+pub use raw::Operand;
+pub use raw::RawOperation;
+pub use raw::UpToTwo;
+pub use refusal::Dependence;
+pub use refusal::Refusal;
+pub use refusal::Violation;
 pub use register::General;
 pub use register::Place;
 pub use register::Predicate;
 pub use register::Register;
+pub use targets::Target;
+pub use targets::Targets;
