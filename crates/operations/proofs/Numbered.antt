@@ -15,6 +15,11 @@ use borrow.Author.Needs.{needs}
 pub same-number : (n : ℕ) (p q : n < 32) → _≡_ {A = RegisterNumber} (record { number = n; below = p }) (record { number = n; below = q })
 same-number n p q = ap (λ (h : n < 32). record { number = n; below = h }) (le-prop p q)
 
+pub numbers-agree : (x y : RegisterNumber) → x .number ≡ y .number → x ≡ y
+numbers-agree x y e =
+    let P : ℕ → Type 0 = λ m. (h : m < 32) → x ≡ record { number = m; below = h } in
+    subst P e (λ h. same-number (x .number) (x .below) h) (y .below)
+
 pub number-there : (n : ℕ) (p : n < 32) → ltb n 32 ≡ true → _≡_ {A = Option RegisterNumber} (Some (record { number = n; below = p })) (numbered n)
 number-there n p t = by (ltb n 32) refl t
   where

@@ -3,3 +3,4 @@ pub mod Names
 pub mod Refusals
 pub mod Typing
 pub mod Access
+pub mod Effects

@@ -6,6 +6,7 @@ use native.Mathlib.Omega.{arith}
 use lib.Dec.{ltb, eqb}
 use borrow.Author.Tests.{ltb-true}
 use Rattle.std.specs.Options.{isSome}
+use Rattle.std.specs.Orderings.{Decides}
 use Rattle.std.specs.declared.option.Option.{Option}
 use Rattle.std.specs.declared.option.Option.the-variants.{Some, None}
 use Rattle.operations.specs.declared.number.RegisterNumber.{RegisterNumber}
@@ -56,6 +57,10 @@ physical-general rrb (general.the-variants.Rotating n) = general.the-variants.Ro
 abbrev pub physical-predicate : RegisterNumber → Predicate → Predicate
 physical-predicate rrb (predicate.the-variants.Static n) = predicate.the-variants.Static n
 physical-predicate rrb (predicate.the-variants.Rotating n) = predicate.the-variants.Rotating (rotated n rrb)
+
+-- an answer that is this test, and tells whether a fact holds
+abbrev pub Tells : Bool → Bool → Type 0 → Type 0
+Tells test r P = (r ≡ test) × Decides r P
 
 abbrev pub same-predicate : Predicate → Predicate → Bool
 same-predicate (predicate.the-variants.Static m) (predicate.the-variants.Static n) = eqb (m .number) (n .number)

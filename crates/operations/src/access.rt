@@ -38,7 +38,10 @@ impl Reads {
     pub fn has(&self, place: Place) -> bool
         ensures { λ r. ⌜ r ≡ among place (read-list (now (self .entry))) ⌝ }
     {
-        is_at(self.guard, place) || is_at(self.first, place) || is_at(self.second, place) || is_at(self.memory, place)
+        is_at(self.guard, place)
+            || is_at(self.first, place)
+            || is_at(self.second, place)
+            || is_at(self.memory, place)
     }
 }
 
@@ -92,7 +95,10 @@ impl Operation {
             Form::Unary { source, .. } => (Some(source), None),
             Form::Compare { first, second, .. } => (Some(first), Some(second)),
             Form::Load { address, .. } => (Some(Source::Register(address)), None),
-            Form::Store { address, value } => (Some(Source::Register(address)), Some(Source::Register(value))),
+            Form::Store { address, value } => (
+                Some(Source::Register(address)),
+                Some(Source::Register(value)),
+            ),
         }
     }
 

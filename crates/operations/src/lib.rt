@@ -1,5 +1,6 @@
 // Registers and operations: what an operation reads, writes and does, and why a call is refused.
 mod access;
+mod effect;
 mod names;
 mod number;
 mod operation;
@@ -13,6 +14,8 @@ mod typing;
 pub use access::Class;
 pub use access::Reads;
 pub use access::Writes;
+pub use effect::Effect;
+pub use effect::Write;
 pub use names::GeneralName;
 pub use names::PredicateName;
 pub use names::RegisterName;

@@ -1,10 +1,10 @@
 // Operations, in forms that cannot be wrong.
 use crate::register::General;
 use crate::register::GeneralDebug;
-use crate::register::GeneralPartialEq;
 use crate::register::Predicate;
 use crate::register::PredicateDebug;
-use crate::register::PredicatePartialEq;
+use crate::same::GeneralPartialEq;
+use crate::same::PredicatePartialEq;
 use crate::targets::Targets;
 use crate::targets::TargetsDebug;
 use crate::targets::TargetsPartialEq;

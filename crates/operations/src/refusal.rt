@@ -3,7 +3,7 @@ ghost use mathlib.Core.Path.{_≡_};
 ghost use Rattle.operations.specs.Refusals.{number-of};
 use crate::register::Place;
 use crate::register::PlaceDebug;
-use crate::register::PlacePartialEq;
+use crate::same::PlacePartialEq;
 
 #[derive(Clone, Copy, PartialEq, Eq, Debug)]
 pub enum Dependence {

@@ -5,33 +5,32 @@ ghost use Rattle.std.specs.Options.{isSome};
 ghost use Rattle.operations.specs.Registers.{numbered, rotated, general-place, predicate-place, general-constant, predicate-constant, physical-general, physical-predicate};
 use crate::number::RegisterNumber;
 use crate::number::RegisterNumberDebug;
-use crate::number::RegisterNumberPartialEq;
 
 // How many registers a bank has.
 const REGISTERS: u8 = 32;
 
 // A register of 32 bits.
-#[derive(Clone, Copy, PartialEq, Eq, Debug)]
+#[derive(Clone, Copy, Debug)]
 pub enum General {
     Static(RegisterNumber),
     Rotating(RegisterNumber),
 }
 
 // A register of one bit.
-#[derive(Clone, Copy, PartialEq, Eq, Debug)]
+#[derive(Clone, Copy, Debug)]
 pub enum Predicate {
     Static(RegisterNumber),
     Rotating(RegisterNumber),
 }
 
-#[derive(Clone, Copy, PartialEq, Eq, Debug)]
+#[derive(Clone, Copy, Debug)]
 pub enum Register {
     General(General),
     Predicate(Predicate),
 }
 
 // What can be written and read back: a register that is no constant, or the memory as a whole.
-#[derive(Clone, Copy, PartialEq, Eq, Debug)]
+#[derive(Clone, Copy, Debug)]
 pub enum Place {
     Register(Register),
     Memory,

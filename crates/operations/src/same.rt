@@ -1,72 +1,90 @@
-// Whether two registers, or two places, are one.
+// When two registers, or two places, are one.
 ghost use mathlib.Core.Path.{_≡_};
-ghost use Rattle.operations.specs.Registers.{same-general, same-predicate, same-register, same-place, is-place};
+ghost use lib.Dec.{eqb};
+ghost use Rattle.operations.specs.Registers.{same-general, same-predicate, same-register, same-place, is-place, Tells};
+use crate::number::RegisterNumber;
 use crate::register::General;
 use crate::register::Place;
 use crate::register::Predicate;
 use crate::register::Register;
 
-impl General {
-    pub(crate) fn same(self, other: General) -> bool
-        ensures { λ r. ⌜ r ≡ same-general self other ⌝ }
-    {
-        match self {
-            General::Static(m) => match other {
-                General::Static(n) => m.get() == n.get(),
+pub impl PartialEq<RegisterNumber> for RegisterNumber as RegisterNumberPartialEq {
+    ghost equals = { λ x y r. Tells (eqb (x .number) (y .number)) r (x ≡ y) };
+
+    fn eq(&self, other: &RegisterNumber) -> bool {
+        self.number == other.number
+    }
+}
+
+pub impl Eq for RegisterNumber as RegisterNumberEq {}
+
+pub impl PartialEq<General> for General as GeneralPartialEq {
+    ghost equals = { λ x y r. Tells (same-general x y) r (x ≡ y) };
+
+    fn eq(&self, other: &General) -> bool {
+        match *self {
+            General::Static(m) => match *other {
+                General::Static(n) => m == n,
                 General::Rotating(_) => false,
             },
-            General::Rotating(m) => match other {
+            General::Rotating(m) => match *other {
                 General::Static(_) => false,
-                General::Rotating(n) => m.get() == n.get(),
+                General::Rotating(n) => m == n,
             },
         }
     }
 }
 
-impl Predicate {
-    pub(crate) fn same(self, other: Predicate) -> bool
-        ensures { λ r. ⌜ r ≡ same-predicate self other ⌝ }
-    {
-        match self {
-            Predicate::Static(m) => match other {
-                Predicate::Static(n) => m.get() == n.get(),
+pub impl Eq for General as GeneralEq {}
+
+pub impl PartialEq<Predicate> for Predicate as PredicatePartialEq {
+    ghost equals = { λ x y r. Tells (same-predicate x y) r (x ≡ y) };
+
+    fn eq(&self, other: &Predicate) -> bool {
+        match *self {
+            Predicate::Static(m) => match *other {
+                Predicate::Static(n) => m == n,
                 Predicate::Rotating(_) => false,
             },
-            Predicate::Rotating(m) => match other {
+            Predicate::Rotating(m) => match *other {
                 Predicate::Static(_) => false,
-                Predicate::Rotating(n) => m.get() == n.get(),
+                Predicate::Rotating(n) => m == n,
             },
         }
     }
 }
 
-impl Register {
-    pub(crate) fn same(self, other: Register) -> bool
-        ensures { λ r. ⌜ r ≡ same-register self other ⌝ }
-    {
-        match self {
-            Register::General(g) => match other {
-                Register::General(h) => g.same(h),
+pub impl Eq for Predicate as PredicateEq {}
+
+pub impl PartialEq<Register> for Register as RegisterPartialEq {
+    ghost equals = { λ x y r. Tells (same-register x y) r (x ≡ y) };
+
+    fn eq(&self, other: &Register) -> bool {
+        match *self {
+            Register::General(g) => match *other {
+                Register::General(h) => g == h,
                 Register::Predicate(_) => false,
             },
-            Register::Predicate(p) => match other {
+            Register::Predicate(p) => match *other {
                 Register::General(_) => false,
-                Register::Predicate(q) => p.same(q),
+                Register::Predicate(q) => p == q,
             },
         }
     }
 }
 
-impl Place {
-    pub fn same(self, other: Place) -> bool
-        ensures { λ r. ⌜ r ≡ same-place self other ⌝ }
-    {
-        match self {
-            Place::Register(x) => match other {
-                Place::Register(y) => x.same(y),
+pub impl Eq for Register as RegisterEq {}
+
+pub impl PartialEq<Place> for Place as PlacePartialEq {
+    ghost equals = { λ x y r. Tells (same-place x y) r (x ≡ y) };
+
+    fn eq(&self, other: &Place) -> bool {
+        match *self {
+            Place::Register(x) => match *other {
+                Place::Register(y) => x == y,
                 Place::Memory => false,
             },
-            Place::Memory => match other {
+            Place::Memory => match *other {
                 Place::Register(_) => false,
                 Place::Memory => true,
             },
@@ -74,12 +92,14 @@ impl Place {
     }
 }
 
+pub impl Eq for Place as PlaceEq {}
+
 // Whether there is a place, and it is this one.
 pub(crate) fn is_at(found: Option<Place>, place: Place) -> bool
     ensures { λ r. ⌜ r ≡ is-place place found ⌝ }
 {
     match found {
-        Some(p) => p.same(place),
+        Some(p) => p == place,
         None => false,
     }
 }

@@ -4,7 +4,7 @@ ghost use mathlib.Core.Bool.{false};
 ghost use Rattle.operations.specs.Registers.{one-place};
 use crate::register::Predicate;
 use crate::register::PredicateDebug;
-use crate::register::PredicatePartialEq;
+use crate::same::PredicatePartialEq;
 use opcodes::Action;
 use opcodes::ActionDebug;
 use opcodes::ActionPartialEq;

@@ -14,6 +14,7 @@ use crate::raw::UpToTwo;
 use crate::refusal::Refusal;
 use crate::register::General;
 use crate::register::Predicate;
+use crate::same::PredicatePartialEq;
 use crate::targets::Target;
 use crate::targets::Targets;
 use opcodes::Action;
@@ -160,7 +161,7 @@ impl Predicate {
     fn clashes(self, other: Predicate) -> bool
         ensures { λ r. ⌜ r ≡ one-place self other ⌝ }
     {
-        self.place().is_some() && self.same(other)
+        self.place().is_some() && self == other
     }
 }
 
@@ -201,7 +202,12 @@ impl RawOperation {
             Opcode::Binary(opcode) => {
                 let to = self.destinations.one_general()?;
                 let (first, second) = self.sources.two_sources()?;
-                Some(Form::Binary { opcode, to, first, second })
+                Some(Form::Binary {
+                    opcode,
+                    to,
+                    first,
+                    second,
+                })
             }
             Opcode::Unary(opcode) => {
                 let to = self.destinations.one_general()?;
@@ -211,7 +217,12 @@ impl RawOperation {
             Opcode::Compare(condition, a, b) => {
                 let targets = self.destinations.targets(a, b)?;
                 let (first, second) = self.sources.two_sources()?;
-                Some(Form::Compare { condition, targets, first, second })
+                Some(Form::Compare {
+                    condition,
+                    targets,
+                    first,
+                    second,
+                })
             }
             Opcode::Load => {
                 let to = self.destinations.one_general()?;
