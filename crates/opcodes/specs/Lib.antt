@@ -1,2 +1,3 @@
 pub mod Words
 pub mod Compares
+pub mod Texts

@@ -2,6 +2,7 @@
 mod compare;
 mod integer;
 mod shift;
+mod text;
 
 pub use compare::Action;
 pub use compare::ActionDebug;
@@ -15,3 +16,7 @@ pub use integer::BinaryOpcodePartialEq;
 pub use integer::UnaryOpcode;
 pub use integer::UnaryOpcodeDebug;
 pub use integer::UnaryOpcodePartialEq;
+pub use text::ActionDisplay;
+pub use text::BinaryOpcodeDisplay;
+pub use text::ConditionDisplay;
+pub use text::UnaryOpcodeDisplay;

@@ -4,3 +4,4 @@ pub mod Refusals
 pub mod Typing
 pub mod Access
 pub mod Effects
+pub mod Texts

@@ -66,15 +66,28 @@ impl Operation {
         ensures idle { λ r. ⌜ (guard ≡ false → r ≡ unguarded (now (self .entry) .form)) ⌝ }
     {
         match self.form {
-            Form::Compare { condition, targets, .. } => {
+            Form::Compare {
+                condition,
+                targets,
+                ..
+            } => {
                 let c = condition.holds(first, second);
-                Effect::Writes(targets.first.write(guard, c), targets.second.write(guard, c))
+                Effect::Writes(
+                    targets.first.write(guard, c),
+                    targets.second.write(guard, c),
+                )
             }
             _ if !guard => Effect::Writes(None, None),
-            Form::Binary { opcode, to, .. } => Effect::Writes(to.write(opcode.result(first, second)), None),
+            Form::Binary { opcode, to, .. } => Effect::Writes(
+                to.write(opcode.result(first, second)),
+                None,
+            ),
             Form::Unary { opcode, to, .. } => Effect::Writes(to.write(opcode.result(first)), None),
             Form::Load { to, .. } => Effect::Load { to, address: first },
-            Form::Store { .. } => Effect::Store { address: first, value: second },
+            Form::Store { .. } => Effect::Store {
+                address: first,
+                value: second,
+            },
         }
     }
 }

@@ -9,6 +9,7 @@ mod refusal;
 mod register;
 mod same;
 mod targets;
+mod text;
 mod typing;
 
 pub use access::Class;
@@ -36,3 +37,10 @@ pub use register::Predicate;
 pub use register::Register;
 pub use targets::Target;
 pub use targets::Targets;
+pub use text::FormDisplay;
+pub use text::GeneralDisplay;
+pub use text::OperationDisplay;
+pub use text::PlaceDisplay;
+pub use text::PredicateDisplay;
+pub use text::RegisterDisplay;
+pub use text::SourceDisplay;
