@@ -5,9 +5,9 @@ use borrow.Author.Needs.{needs}
 use Rattle.std.specs.declared.option.Option.{Option}
 use Rattle.std.specs.declared.option.Option.the-variants.{Some, None}
 use Rattle.opcodes.specs.declared.compare.Action.{Action}
-use Rattle.operations.specs.declared.register.Predicate.{Predicate}
+use Rattle.registers.specs.declared.register.Predicate.{Predicate}
 use Rattle.operations.specs.declared.targets.Targets.{Targets}
-use Rattle.operations.specs.Registers.{one-place}
+use Rattle.registers.specs.Registers.{one-place}
 use Rattle.operations.specs.Typing.{apart, targets-of}
 
 abbrev made : (p q : Predicate) (a b : Action) → one-place p q ≡ false → Targets

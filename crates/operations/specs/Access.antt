@@ -16,9 +16,9 @@ use Rattle.operations.specs.declared.operation.Source.{Source}
 use Rattle.operations.specs.declared.operation.Form.{Form}
 use Rattle.operations.specs.declared.operation.Form.the-variants.{Binary, Unary, Compare, Load, Store}
 use Rattle.operations.specs.declared.operation.Operation.{Operation}
-use Rattle.operations.specs.declared.register.Place.{Place}
-use Rattle.operations.specs.declared.register.Place.the-variants as place
-use Rattle.operations.specs.Registers.{general-constant, general-place, predicate-place, same-place}
+use Rattle.registers.specs.declared.register.Place.{Place}
+use Rattle.registers.specs.declared.register.Place.the-variants as place
+use Rattle.registers.specs.Registers.{general-constant, general-place, predicate-place, same-place}
 
 -- a literal gives itself modulo 2^32
 abbrev pub source-constant : Source → Option ℕ

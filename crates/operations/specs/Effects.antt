@@ -8,23 +8,13 @@ use Rattle.opcodes.specs.Words.{binary-result, unary-result}
 use Rattle.opcodes.specs.Compares.{holds, written}
 use Rattle.opcodes.specs.declared.compare.Action.{Action}
 use Rattle.opcodes.specs.declared.compare.Action.the-variants.{Un, Uc, Cn, Cc, On, Oc, An, Ac}
-use Rattle.operations.specs.declared.effect.Write.{Write}
-use Rattle.operations.specs.declared.effect.Write.the-variants.{Word, Bit}
+use Rattle.registers.specs.declared.write.Write.{Write}
+use Rattle.registers.specs.Writes.{word-write, bit-write}
 use Rattle.operations.specs.declared.effect.Effect.{Effect}
 use Rattle.operations.specs.declared.effect.Effect.the-variants as effect
 use Rattle.operations.specs.declared.operation.Form.{Form}
 use Rattle.operations.specs.declared.operation.Form.the-variants.{Binary, Unary, Compare, Load, Store}
-use Rattle.operations.specs.declared.register.General.{General}
-use Rattle.operations.specs.declared.register.Predicate.{Predicate}
 use Rattle.operations.specs.declared.targets.Target.{Target}
-use Rattle.operations.specs.Registers.{general-place, predicate-place}
-
--- a write to a register; to one that is no place it is dropped
-abbrev pub word-write : General → ℕ → Option Write
-word-write to v = mapped (λ _. Word to v) (general-place to)
-
-abbrev pub bit-write : Predicate → Bool → Option Write
-bit-write to b = mapped (λ _. Bit to b) (predicate-place to)
 
 -- what a destination of a compare gets under the guard g, where the comparison gave c
 abbrev pub target-write : Target → Bool → Bool → Option Write

@@ -1,42 +1,21 @@
--- Registers, places and operations as text. Assumes nothing.
+-- Operations as text. Assumes nothing.
 use mathlib.Core.Bool.{cond}
 use mathlib.Core.List.{List, [], _++_}
 use Prim.Native.Nat.{ℕ}
 use lib.Chars.{codes}
 use lib.Dec.{eqb}
-use Rattle.std.specs.Written.{decimal, signed}
-use Rattle.operations.specs.declared.register.General as general
-use Rattle.operations.specs.declared.register.General.{General}
-use Rattle.operations.specs.declared.register.Predicate as predicate
-use Rattle.operations.specs.declared.register.Predicate.{Predicate}
-use Rattle.operations.specs.declared.register.Register as register
-use Rattle.operations.specs.declared.register.Register.{Register}
-use Rattle.operations.specs.declared.register.Place as place
-use Rattle.operations.specs.declared.register.Place.{Place}
+use Rattle.std.specs.Written.{signed}
+use Rattle.opcodes.specs.declared.compare.Condition.{Condition}
+use Rattle.opcodes.specs.Texts.{binary-text, unary-text, condition-text, action-text}
+use Rattle.registers.specs.declared.register.Predicate as predicate
+use Rattle.registers.specs.declared.register.Predicate.{Predicate}
+use Rattle.registers.specs.Texts.{general-text, predicate-text}
 use Rattle.operations.specs.declared.operation.Source as source
 use Rattle.operations.specs.declared.operation.Source.{Source}
 use Rattle.operations.specs.declared.operation.Form.{Form}
 use Rattle.operations.specs.declared.operation.Form.the-variants.{Binary, Unary, Compare, Load, Store}
 use Rattle.operations.specs.declared.operation.Operation.{Operation}
-use Rattle.opcodes.specs.declared.compare.Condition.{Condition}
 use Rattle.operations.specs.declared.targets.Targets.{Targets}
-use Rattle.opcodes.specs.Texts.{binary-text, unary-text, condition-text, action-text}
-
-abbrev pub general-text : General → List ℕ
-general-text (general.the-variants.Static n) = codes "r" ++ decimal (n .number)
-general-text (general.the-variants.Rotating n) = codes "rr" ++ decimal (n .number)
-
-abbrev pub predicate-text : Predicate → List ℕ
-predicate-text (predicate.the-variants.Static n) = codes "p" ++ decimal (n .number)
-predicate-text (predicate.the-variants.Rotating n) = codes "rp" ++ decimal (n .number)
-
-abbrev pub register-text : Register → List ℕ
-register-text (register.the-variants.General g) = general-text g
-register-text (register.the-variants.Predicate p) = predicate-text p
-
-abbrev pub place-text : Place → List ℕ
-place-text (place.the-variants.Register x) = register-text x
-place-text place.the-variants.Memory = codes "memory"
 
 abbrev pub source-text : Source → List ℕ
 source-text (source.the-variants.Register g) = general-text g

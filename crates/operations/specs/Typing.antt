@@ -7,10 +7,10 @@ use Rattle.std.specs.declared.option.Option.the-variants.{Some, None}
 use Rattle.std.specs.declared.result.Result.{Result}
 use Rattle.std.specs.declared.result.Result.the-variants.{Ok, Err}
 use Rattle.opcodes.specs.declared.compare.Action.{Action}
-use Rattle.operations.specs.declared.register.General.{General}
-use Rattle.operations.specs.declared.register.Predicate.{Predicate}
-use Rattle.operations.specs.declared.names.RegisterName as name
-use Rattle.operations.specs.declared.names.RegisterName.{RegisterName}
+use Rattle.registers.specs.declared.register.General.{General}
+use Rattle.registers.specs.declared.register.Predicate.{Predicate}
+use Rattle.registers.specs.declared.names.RegisterName as name
+use Rattle.registers.specs.declared.names.RegisterName.{RegisterName}
 use Rattle.operations.specs.declared.operation.Source as source
 use Rattle.operations.specs.declared.operation.Source.{Source}
 use Rattle.operations.specs.declared.operation.Form as form
@@ -26,8 +26,8 @@ use Rattle.operations.specs.declared.raw.RawOperation.{RawOperation}
 use Rattle.operations.specs.declared.refusal.Refusal.{Refusal}
 use Rattle.operations.specs.declared.refusal.Refusal.the-variants.{NoSuch, WrongOperands}
 use Rattle.operations.specs.declared.targets.Targets.{Targets}
-use Rattle.operations.specs.Registers.{one-place}
-use Rattle.operations.specs.Names.{general-of, predicate-of, register-of}
+use Rattle.registers.specs.Registers.{one-place}
+use Rattle.registers.specs.Names.{general-of, predicate-of, register-of}
 
 -- the register of that name, where it is a general one; where it is a predicate
 abbrev pub general-named : RegisterName → Option General

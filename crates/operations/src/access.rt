@@ -1,12 +1,13 @@
 // What an operation reads and writes, whether it acts or not.
 ghost use mathlib.Core.Path.{_≡_};
 ghost use Rattle.std.specs.Options.{mapped, flattened};
+ghost use Rattle.registers.specs.Registers.{is-place};
 ghost use Rattle.operations.specs.Access.{sources-of, source-place, source-constant, reads-of, writes-of, class-of, memory-read, memory-written, destination-places, read-list, write-list, among};
 use crate::operation::Form;
 use crate::operation::Operation;
 use crate::operation::Source;
-use crate::register::Place;
-use crate::same::is_at;
+use registers::Place;
+use registers::PlacePartialEq;
 
 // Its guard and sources, each where it is a place, and the memory for a load.
 #[derive(Clone, Copy)]
@@ -31,6 +32,16 @@ pub enum Class {
     Integer,
     Memory,
     Compare,
+}
+
+// Whether there is a place, and it is this one.
+fn is_at(found: Option<Place>, place: Place) -> bool
+    ensures { λ r. ⌜ r ≡ is-place place found ⌝ }
+{
+    match found {
+        Some(p) => p == place,
+        None => false,
+    }
 }
 
 impl Reads {

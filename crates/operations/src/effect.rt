@@ -1,19 +1,12 @@
 // What an operation does with the values that it has read.
 ghost use mathlib.Core.Path.{_≡_};
-ghost use mathlib.Core.Bool.{Bool, false};
-ghost use Rattle.operations.specs.Effects.{word-write, bit-write, target-write, effect-of, unguarded};
+ghost use mathlib.Core.Bool.{false};
+ghost use Rattle.operations.specs.Effects.{target-write, effect-of, unguarded};
 use crate::operation::Form;
 use crate::operation::Operation;
-use crate::register::General;
-use crate::register::Predicate;
 use crate::targets::Target;
-
-// A value for a register that is a place.
-#[derive(Clone, Copy)]
-pub enum Write {
-    Word { to: General, value: u32 },
-    Bit { to: Predicate, value: bool },
-}
+use registers::General;
+use registers::Write;
 
 #[derive(Clone, Copy)]
 pub enum Effect {
@@ -22,30 +15,6 @@ pub enum Effect {
     // `to` gets the word at the address, or 0 where the memory refuses it.
     Load { to: General, address: u32 },
     Store { address: u32, value: u32 },
-}
-
-impl General {
-    // The value for this register; dropped where it is a constant.
-    pub fn write(self, value: u32) -> Option<Write>
-        ensures { λ r. ⌜ r ≡ word-write self value ⌝ }
-    {
-        match self.place() {
-            Some(_) => Some(Write::Word { to: self, value }),
-            None => None,
-        }
-    }
-}
-
-impl Predicate {
-    // The value for this register; dropped where it is a constant.
-    pub fn write(self, value: bool) -> Option<Write>
-        ensures { λ r. ⌜ r ≡ bit-write self value ⌝ }
-    {
-        match self.place() {
-            Some(_) => Some(Write::Bit { to: self, value }),
-            None => None,
-        }
-    }
 }
 
 impl Target {

@@ -1,10 +1,4 @@
 // Operations, in forms that cannot be wrong.
-use crate::register::General;
-use crate::register::GeneralDebug;
-use crate::register::Predicate;
-use crate::register::PredicateDebug;
-use crate::same::GeneralPartialEq;
-use crate::same::PredicatePartialEq;
 use crate::targets::Targets;
 use crate::targets::TargetsDebug;
 use crate::targets::TargetsPartialEq;
@@ -17,6 +11,12 @@ use opcodes::ConditionPartialEq;
 use opcodes::UnaryOpcode;
 use opcodes::UnaryOpcodeDebug;
 use opcodes::UnaryOpcodePartialEq;
+use registers::General;
+use registers::GeneralDebug;
+use registers::GeneralPartialEq;
+use registers::Predicate;
+use registers::PredicateDebug;
+use registers::PredicatePartialEq;
 
 #[derive(Clone, Copy, PartialEq, Eq, Debug)]
 pub enum Source {

@@ -1,8 +1,4 @@
 // Operations as they are handed in, before anything is known of them.
-use crate::names::PredicateName;
-use crate::names::PredicateNameDebug;
-use crate::names::RegisterName;
-use crate::names::RegisterNameDebug;
 use opcodes::Action;
 use opcodes::ActionDebug;
 use opcodes::BinaryOpcode;
@@ -11,6 +7,10 @@ use opcodes::Condition;
 use opcodes::ConditionDebug;
 use opcodes::UnaryOpcode;
 use opcodes::UnaryOpcodeDebug;
+use registers::PredicateName;
+use registers::PredicateNameDebug;
+use registers::RegisterName;
+use registers::RegisterNameDebug;
 
 #[derive(Clone, Copy, Debug)]
 pub enum Opcode {

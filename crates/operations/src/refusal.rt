@@ -1,9 +1,9 @@
 // Why a call is refused.
 ghost use mathlib.Core.Path.{_≡_};
 ghost use Rattle.operations.specs.Refusals.{number-of};
-use crate::register::Place;
-use crate::register::PlaceDebug;
-use crate::same::PlacePartialEq;
+use registers::Place;
+use registers::PlaceDebug;
+use registers::PlacePartialEq;
 
 #[derive(Clone, Copy, PartialEq, Eq, Debug)]
 pub enum Dependence {

@@ -1,13 +1,13 @@
 // The two destinations of a compare.
 ghost use mathlib.Core.Path.{_≡_};
 ghost use mathlib.Core.Bool.{false};
-ghost use Rattle.operations.specs.Registers.{one-place};
-use crate::register::Predicate;
-use crate::register::PredicateDebug;
-use crate::same::PredicatePartialEq;
+ghost use Rattle.registers.specs.Registers.{one-place};
 use opcodes::Action;
 use opcodes::ActionDebug;
 use opcodes::ActionPartialEq;
+use registers::Predicate;
+use registers::PredicateDebug;
+use registers::PredicatePartialEq;
 
 #[derive(Clone, Copy, PartialEq, Eq, Debug)]
 pub struct Target {

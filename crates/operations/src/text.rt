@@ -1,13 +1,9 @@
-// Registers, places and operations as text.
+// Operations as text.
 ghost use Rattle.std.specs.declared.option.Option.the-variants.{Some};
-ghost use Rattle.operations.specs.Texts.{general-text, predicate-text, register-text, place-text, source-text, sources-text, compare-text, form-text, guard-text, operation-text};
+ghost use Rattle.operations.specs.Texts.{source-text, sources-text, compare-text, form-text, guard-text, operation-text};
 use crate::operation::Form;
 use crate::operation::Operation;
 use crate::operation::Source;
-use crate::register::General;
-use crate::register::Place;
-use crate::register::Predicate;
-use crate::register::Register;
 use crate::targets::Target;
 use crate::targets::Targets;
 use opcodes::ActionDisplay;
@@ -15,63 +11,10 @@ use opcodes::BinaryOpcodeDisplay;
 use opcodes::Condition;
 use opcodes::ConditionDisplay;
 use opcodes::UnaryOpcodeDisplay;
+use registers::GeneralDisplay;
+use registers::Predicate;
+use registers::PredicateDisplay;
 use std::fmt;
-
-pub impl fmt::Display for General as GeneralDisplay {
-    ghost shown = { λ g. Some (general-text g) };
-
-    fn fmt<W: fmt::Write>(&self, f: &mut fmt::Formatter<W>) -> fmt::Result {
-        match *self {
-            General::Static(n) => {
-                let number = n.get();
-                write!(f, "r{number}")
-            }
-            General::Rotating(n) => {
-                let number = n.get();
-                write!(f, "rr{number}")
-            }
-        }
-    }
-}
-
-pub impl fmt::Display for Predicate as PredicateDisplay {
-    ghost shown = { λ p. Some (predicate-text p) };
-
-    fn fmt<W: fmt::Write>(&self, f: &mut fmt::Formatter<W>) -> fmt::Result {
-        match *self {
-            Predicate::Static(n) => {
-                let number = n.get();
-                write!(f, "p{number}")
-            }
-            Predicate::Rotating(n) => {
-                let number = n.get();
-                write!(f, "rp{number}")
-            }
-        }
-    }
-}
-
-pub impl fmt::Display for Register as RegisterDisplay {
-    ghost shown = { λ x. Some (register-text x) };
-
-    fn fmt<W: fmt::Write>(&self, f: &mut fmt::Formatter<W>) -> fmt::Result {
-        match *self {
-            Register::General(g) => write!(f, "{g}"),
-            Register::Predicate(p) => write!(f, "{p}"),
-        }
-    }
-}
-
-pub impl fmt::Display for Place as PlaceDisplay {
-    ghost shown = { λ p. Some (place-text p) };
-
-    fn fmt<W: fmt::Write>(&self, f: &mut fmt::Formatter<W>) -> fmt::Result {
-        match *self {
-            Place::Register(x) => write!(f, "{x}"),
-            Place::Memory => write!(f, "memory"),
-        }
-    }
-}
 
 pub impl fmt::Display for Source as SourceDisplay {
     ghost shown = { λ s. Some (source-text s) };

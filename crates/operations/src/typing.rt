@@ -1,9 +1,8 @@
 // A raw operation as a typed one, or why it is none.
 ghost use mathlib.Core.Path.{_≡_};
 ghost use Rattle.std.specs.Options.{mapped, flattened};
-ghost use Rattle.operations.specs.Registers.{one-place};
+ghost use Rattle.registers.specs.Registers.{one-place};
 ghost use Rattle.operations.specs.Typing.{general-named, predicate-named, source-of, address-of, zero, one, two, targets-of, form-of, names-exist, typed-of, each, known-name, known-operand};
-use crate::names::RegisterName;
 use crate::operation::Form;
 use crate::operation::Operation;
 use crate::operation::Source;
@@ -12,30 +11,29 @@ use crate::raw::Operand;
 use crate::raw::RawOperation;
 use crate::raw::UpToTwo;
 use crate::refusal::Refusal;
-use crate::register::General;
-use crate::register::Predicate;
-use crate::same::PredicatePartialEq;
 use crate::targets::Target;
 use crate::targets::Targets;
 use opcodes::Action;
+use registers::General;
+use registers::Predicate;
+use registers::PredicatePartialEq;
+use registers::RegisterName;
 
-impl RegisterName {
-    fn general(self) -> Option<General>
-        ensures { λ r. ⌜ r ≡ general-named self ⌝ }
-    {
-        match self {
-            RegisterName::General(name) => name.register(),
-            RegisterName::Predicate(_) => None,
-        }
+fn general(name: RegisterName) -> Option<General>
+    ensures { λ r. ⌜ r ≡ general-named name ⌝ }
+{
+    match name {
+        RegisterName::General(name) => name.register(),
+        RegisterName::Predicate(_) => None,
     }
+}
 
-    fn predicate(self) -> Option<Predicate>
-        ensures { λ r. ⌜ r ≡ predicate-named self ⌝ }
-    {
-        match self {
-            RegisterName::General(_) => None,
-            RegisterName::Predicate(name) => name.register(),
-        }
+fn predicate(name: RegisterName) -> Option<Predicate>
+    ensures { λ r. ⌜ r ≡ predicate-named name ⌝ }
+{
+    match name {
+        RegisterName::General(_) => None,
+        RegisterName::Predicate(name) => name.register(),
     }
 }
 
@@ -44,7 +42,7 @@ impl Operand {
         ensures { λ r. ⌜ r ≡ source-of self ⌝ }
     {
         match self {
-            Operand::Register(name) => Some(Source::Register(name.general()?)),
+            Operand::Register(name) => Some(Source::Register(general(name)?)),
             Operand::Literal(z) => Some(Source::Literal(z)),
         }
     }
@@ -54,7 +52,7 @@ impl Operand {
         ensures { λ r. ⌜ r ≡ address-of self ⌝ }
     {
         match self {
-            Operand::Register(name) => name.general(),
+            Operand::Register(name) => general(name),
             Operand::Literal(_) => None,
         }
     }
@@ -83,7 +81,7 @@ impl UpToTwo<RegisterName> {
         ensures { λ r. ⌜ r ≡ one general-named self ⌝ }
     {
         match self {
-            UpToTwo::One(name) => name.general(),
+            UpToTwo::One(name) => general(name),
             _ => None,
         }
     }
@@ -92,7 +90,7 @@ impl UpToTwo<RegisterName> {
         ensures { λ r. ⌜ r ≡ two predicate-named self ⌝ }
     {
         match self {
-            UpToTwo::Two(a, b) => Some((a.predicate()?, b.predicate()?)),
+            UpToTwo::Two(a, b) => Some((predicate(a)?, predicate(b)?)),
             _ => None,
         }
     }
@@ -156,20 +154,18 @@ impl UpToTwo<Operand> {
     }
 }
 
-impl Predicate {
-    // Whether both are one place.
-    fn clashes(self, other: Predicate) -> bool
-        ensures { λ r. ⌜ r ≡ one-place self other ⌝ }
-    {
-        self.place().is_some() && self == other
-    }
+// Whether two predicates are one place.
+fn clash(p: Predicate, q: Predicate) -> bool
+    ensures { λ r. ⌜ r ≡ one-place p q ⌝ }
+{
+    p.place().is_some() && p == q
 }
 
 // The two destinations of a compare, where they are not one place.
 fn unless_one(first: Target, second: Target) -> Option<Targets>
     ensures { λ r. ⌜ r ≡ targets-of (first .action) (second .action) (first .to, second .to) ⌝ }
 {
-    if first.to.clashes(second.to) {
+    if clash(first.to, second.to) {
         None
     } else {
         Some(Targets { first, second })

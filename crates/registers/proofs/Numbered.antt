@@ -8,8 +8,8 @@ use lib.Dec.{ltb}
 use borrow.Author.Tests.{ltb-true}
 use Rattle.std.specs.declared.option.Option.{Option}
 use Rattle.std.specs.declared.option.Option.the-variants.{Some, None}
-use Rattle.operations.specs.declared.number.RegisterNumber.{RegisterNumber}
-use Rattle.operations.specs.Registers.{numbered, below}
+use Rattle.registers.specs.declared.number.RegisterNumber.{RegisterNumber}
+use Rattle.registers.specs.Registers.{numbered, below}
 use borrow.Author.Needs.{needs}
 
 pub same-number : (n : ℕ) (p q : n < 32) → _≡_ {A = RegisterNumber} (record { number = n; below = p }) (record { number = n; below = q })

@@ -1,7 +1,7 @@
 // When two registers, or two places, are one.
 ghost use mathlib.Core.Path.{_≡_};
 ghost use lib.Dec.{eqb};
-ghost use Rattle.operations.specs.Registers.{same-general, same-predicate, same-register, same-place, is-place, Tells};
+ghost use Rattle.registers.specs.Registers.{same-general, same-predicate, same-register, same-place, Tells};
 use crate::number::RegisterNumber;
 use crate::register::General;
 use crate::register::Place;
@@ -93,13 +93,3 @@ pub impl PartialEq<Place> for Place as PlacePartialEq {
 }
 
 pub impl Eq for Place as PlaceEq {}
-
-// Whether there is a place, and it is this one.
-pub(crate) fn is_at(found: Option<Place>, place: Place) -> bool
-    ensures { λ r. ⌜ r ≡ is-place place found ⌝ }
-{
-    match found {
-        Some(p) => p == place,
-        None => false,
-    }
-}

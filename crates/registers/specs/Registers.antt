@@ -9,15 +9,15 @@ use Rattle.std.specs.Options.{isSome}
 use Rattle.std.specs.Orderings.{Decides}
 use Rattle.std.specs.declared.option.Option.{Option}
 use Rattle.std.specs.declared.option.Option.the-variants.{Some, None}
-use Rattle.operations.specs.declared.number.RegisterNumber.{RegisterNumber}
-use Rattle.operations.specs.declared.register.General as general
-use Rattle.operations.specs.declared.register.General.{General}
-use Rattle.operations.specs.declared.register.Predicate as predicate
-use Rattle.operations.specs.declared.register.Predicate.{Predicate}
-use Rattle.operations.specs.declared.register.Register as register
-use Rattle.operations.specs.declared.register.Register.{Register}
-use Rattle.operations.specs.declared.register.Place.{Place}
-use Rattle.operations.specs.declared.register.Place.the-variants as place
+use Rattle.registers.specs.declared.number.RegisterNumber.{RegisterNumber}
+use Rattle.registers.specs.declared.register.General as general
+use Rattle.registers.specs.declared.register.General.{General}
+use Rattle.registers.specs.declared.register.Predicate as predicate
+use Rattle.registers.specs.declared.register.Predicate.{Predicate}
+use Rattle.registers.specs.declared.register.Register as register
+use Rattle.registers.specs.declared.register.Register.{Register}
+use Rattle.registers.specs.declared.register.Place.{Place}
+use Rattle.registers.specs.declared.register.Place.the-variants as place
 
 abbrev pub below : (n : ℕ) (b : Bool) → ltb n 32 ≡ b → Option RegisterNumber
 below n true e = Some (record { number = n; below = ltb-true n 32 e })

@@ -1,6 +1,6 @@
 // Registers as they are named from outside, with any number.
 ghost use mathlib.Core.Path.{_≡_};
-ghost use Rattle.operations.specs.Names.{general-of, predicate-of, register-of};
+ghost use Rattle.registers.specs.Names.{general-of, predicate-of, register-of};
 use crate::number::RegisterNumber;
 use crate::register::General;
 use crate::register::Predicate;

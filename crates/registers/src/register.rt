@@ -2,7 +2,7 @@
 ghost use mathlib.Core.Path.{_≡_};
 ghost use mathlib.Core.Bool.{not};
 ghost use Rattle.std.specs.Options.{isSome};
-ghost use Rattle.operations.specs.Registers.{numbered, rotated, general-place, predicate-place, general-constant, predicate-constant, physical-general, physical-predicate};
+ghost use Rattle.registers.specs.Registers.{numbered, rotated, general-place, predicate-place, general-constant, predicate-constant, physical-general, physical-predicate};
 use crate::number::RegisterNumber;
 use crate::number::RegisterNumberDebug;
 

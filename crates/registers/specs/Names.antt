@@ -1,19 +1,19 @@
 -- The registers that names from outside mean. Assumes nothing.
 use Rattle.std.specs.Options.{mapped}
 use Rattle.std.specs.declared.option.Option.{Option}
-use Rattle.operations.specs.declared.register.General as general
-use Rattle.operations.specs.declared.register.General.{General}
-use Rattle.operations.specs.declared.register.Predicate as predicate
-use Rattle.operations.specs.declared.register.Predicate.{Predicate}
-use Rattle.operations.specs.declared.register.Register as register
-use Rattle.operations.specs.declared.register.Register.{Register}
-use Rattle.operations.specs.declared.names.GeneralName as general-name
-use Rattle.operations.specs.declared.names.GeneralName.{GeneralName}
-use Rattle.operations.specs.declared.names.PredicateName as predicate-name
-use Rattle.operations.specs.declared.names.PredicateName.{PredicateName}
-use Rattle.operations.specs.declared.names.RegisterName as register-name
-use Rattle.operations.specs.declared.names.RegisterName.{RegisterName}
-use Rattle.operations.specs.Registers.{numbered}
+use Rattle.registers.specs.declared.register.General as general
+use Rattle.registers.specs.declared.register.General.{General}
+use Rattle.registers.specs.declared.register.Predicate as predicate
+use Rattle.registers.specs.declared.register.Predicate.{Predicate}
+use Rattle.registers.specs.declared.register.Register as register
+use Rattle.registers.specs.declared.register.Register.{Register}
+use Rattle.registers.specs.declared.names.GeneralName as general-name
+use Rattle.registers.specs.declared.names.GeneralName.{GeneralName}
+use Rattle.registers.specs.declared.names.PredicateName as predicate-name
+use Rattle.registers.specs.declared.names.PredicateName.{PredicateName}
+use Rattle.registers.specs.declared.names.RegisterName as register-name
+use Rattle.registers.specs.declared.names.RegisterName.{RegisterName}
+use Rattle.registers.specs.Registers.{numbered}
 
 abbrev pub general-of : GeneralName → Option General
 general-of (general-name.the-variants.Static n) = mapped general.the-variants.Static (numbered n)

@@ -1,0 +1,4 @@
+pub mod Registers
+pub mod Names
+pub mod Writes
+pub mod Texts

@@ -1,0 +1,37 @@
+// Registers, the names that they are given from outside, places, and writes to registers.
+mod names;
+mod number;
+mod register;
+mod same;
+mod text;
+mod write;
+
+pub use names::GeneralName;
+pub use names::GeneralNameDebug;
+pub use names::GeneralNamePartialEq;
+pub use names::PredicateName;
+pub use names::PredicateNameDebug;
+pub use names::PredicateNamePartialEq;
+pub use names::RegisterName;
+pub use names::RegisterNameDebug;
+pub use names::RegisterNamePartialEq;
+pub use number::RegisterNumber;
+pub use number::RegisterNumberDebug;
+pub use register::General;
+pub use register::GeneralDebug;
+pub use register::Place;
+pub use register::PlaceDebug;
+pub use register::Predicate;
+pub use register::PredicateDebug;
+pub use register::Register;
+pub use register::RegisterDebug;
+pub use same::GeneralPartialEq;
+pub use same::PlacePartialEq;
+pub use same::PredicatePartialEq;
+pub use same::RegisterNumberPartialEq;
+pub use same::RegisterPartialEq;
+pub use text::GeneralDisplay;
+pub use text::PlaceDisplay;
+pub use text::PredicateDisplay;
+pub use text::RegisterDisplay;
+pub use write::Write;
