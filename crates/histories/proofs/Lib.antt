@@ -1,0 +1,4 @@
+pub mod Counts
+pub mod Levels
+pub mod Order
+pub mod Reading
