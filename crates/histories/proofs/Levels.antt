@@ -2,14 +2,14 @@
 -- levels. Assumes nothing.
 use mathlib.Core.Path.{_≡_, refl, sym, ap, ap₂, _∙_}
 use mathlib.Core.List.{List, [], _∷_, _++_, map, map-append}
-use mathlib.Core.Bool.{Bool, true, false, cond, not, _&&_, _||_}
-use Prim.Native.Nat.{ℕ, zero, suc, _+_, _≤_, _<_}
+use mathlib.Core.Bool.{Bool, true, false, cond, _&&_}
+use Prim.Native.Nat.{ℕ, zero, suc, _+_, _<_}
 use native.Mathlib.Omega.{arith}
-use lib.Dec.{leb, ltb, eqb}
+use lib.Dec.{eqb}
 use Rattle.std.specs.Iters.{counting}
 use Rattle.std.proofs.shelf.Counted.{map-counting-more}
-use Rattle.histories.specs.Below.{those-below, some-below, count-below, greatest-below}
-use Rattle.histories.specs.History.{Accesses, Clock, Entry, entry, landing, landing-between, landings, opening, entry-at, history}
+use Rattle.histories.specs.Below.{those-below, count-below, greatest-below}
+use Rattle.histories.specs.History.{Accesses, Clock, Entry, entry, landing, opening, entry-at, history}
 use Rattle.histories.proofs.Counts.{some-true, those-cong, those-none, same-landing, read-first, read-after, guard}
 
 -- at how many times up to t, itself with them, a write lands

@@ -1,20 +1,20 @@
 -- Two clocks that order a place's writers and readers alike give it the same history, and the converse.
 -- Assumes nothing.
-use mathlib.Core.Path.{_≡_, refl, sym, ap, ap₂, subst, _∙_}
-use mathlib.Core.Logic.{_⊎_, inl, inr, _↔_}
-use mathlib.Core.List.{List, [], _∷_, map}
-use mathlib.Core.Bool.{Bool, true, false, cond, not, _&&_, _||_}
+use mathlib.Core.Path.{_≡_, refl, sym, ap, ap₂, _∙_}
+use mathlib.Core.Logic.{inl, inr, _↔_}
+use mathlib.Core.List.{[], map}
+use mathlib.Core.Bool.{Bool, true, false, cond, not, _&&_}
 use Prim.Native.Nat.{ℕ, zero, suc, _+_, _≤_, _<_}
 use native.Mathlib.Omega.{arith}
-use lib.Dec.{leb, ltb, eqb}
+use lib.Dec.{ltb, eqb}
 use lib.ListN.{length, getD}
 use Rattle.std.specs.Iters.{counting}
 use Rattle.std.proofs.shelf.Counted.{length-map-counting, getD-map-counting}
 use Rattle.std.proofs.shelf.Tests.{cases-lt, eq-eqb, eqb-true, and-parts, and-from}
-use Rattle.histories.specs.Below.{those-below, some-below, count-below, greatest-below}
+use Rattle.histories.specs.Below.{some-below, count-below, greatest-below}
 use Rattle.histories.specs.History.{Accesses, Clock, Entry, entry, landing, history, Agree, Order-decides-history}
 use Rattle.histories.specs.Reading.{History-names-accesses}
-use Rattle.histories.proofs.Counts.{guard, bool-iff, ltb-iff, not-le, not-lt, greatest-ge, some-cong, some-none, those-cong, those-inj, listed-those, listed-within, count-cong, count-none, count-mono, count-gap}
+use Rattle.histories.proofs.Counts.{guard, bool-iff, ltb-iff, not-le, not-lt, greatest-ge, some-cong, some-none, those-cong, those-inj, count-cong, count-none, count-mono, count-gap}
 use Rattle.histories.proofs.Levels.{level, at-level, height, levelled, same-by-levels, lands-there}
 
 -- the first writer, by number, of those that land at its time

@@ -1,16 +1,14 @@
 -- What a history says of its writers and readers. Assumes nothing.
-use mathlib.Core.Path.{_≡_, refl, sym, ap, subst, _∙_}
-use mathlib.Core.Logic.{_↔_}
-use mathlib.Core.List.{List, [], _∷_}
-use mathlib.Core.Bool.{Bool, true, _&&_}
-use Prim.Native.Nat.{ℕ, zero, suc, _+_, _≤_, _<_}
+use mathlib.Core.Path.{_≡_, sym, ap, subst, _∙_}
+use mathlib.Core.List.{[]}
+use mathlib.Core.Bool.{true}
+use Prim.Native.Nat.{ℕ, suc, _<_}
 use native.Mathlib.Omega.{arith}
-use lib.Dec.{ltb, eqb}
 use lib.ListN.{length, getD}
 use Rattle.std.proofs.shelf.Counted.{length-map-counting, getD-map-counting}
 use Rattle.std.proofs.shelf.Tests.{eqb-true, and-parts}
-use Rattle.histories.specs.Below.{count-below, greatest-below, listed}
-use Rattle.histories.specs.History.{Accesses, Clock, Entry, entry, landing, history}
+use Rattle.histories.specs.Below.{greatest-below, listed}
+use Rattle.histories.specs.History.{Accesses, Clock, entry, landing}
 use Rattle.histories.specs.Reading.{Writer-in, Reader-in, Reads-as, History-reads-so}
 use Rattle.histories.proofs.Counts.{some-found, count-reached, listed-those, listed-within}
 use Rattle.histories.proofs.Levels.{level, at-level, height, levelled, same-by-levels, lands-there}
