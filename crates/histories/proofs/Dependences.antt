@@ -29,6 +29,34 @@ position-before s i j hi hj = (λ h. by-cycle h (cases-order (s .cycle i) (s .cy
     by-cycle h (inr (inl l)) = omega arith
     by-cycle h (inr (inr g)) = let l = h .0 in omega arith
 
+module _ (p : Program) (s : Schedule) where
+  -- what equal histories say of a pair of operations
+  pub same-agrees : (latency : ℕ → ℕ) (x : Place) → Same p s latency x none-withheld → Agree (p .size) (p .accesses x) (scheduled s latency x) written
+  same-agrees latency x same = history-decides (p .size) (p .accesses x) (scheduled s latency x) written same
+
+  pub flow-from : (latency : ℕ → ℕ) (r : Register) (i j : ℕ) → Same p s latency (place.Register r) none-withheld → Flow p (place.Register r) i j →
+      s .cycle i + latency i ≤ s .cycle j
+  flow-from latency r i j same (l, h, wi, rj) =
+      let a = same-agrees latency (place.Register r) same .seen i j (omega arith) h wi rj in
+      let b = a .1 (omega arith) in
+      omega arith
+
+  pub anti-from : (latency : ℕ → ℕ) (r : Register) (i j : ℕ) → Same p s latency (place.Register r) none-withheld → Anti p (place.Register r) i j →
+      s .cycle i < s .cycle j + latency j
+  anti-from latency r i j same (l, h, ri, wj) =
+      let a = same-agrees latency (place.Register r) same .seen j i h (omega arith) wj ri in
+      elim (cases-lt (s .cycle i) (s .cycle j + latency j)) [ inl x ↦ x | inr g ↦ absurd (let b = a .0 (omega arith) in omega arith) ]
+
+  pub output-from : (latency : ℕ → ℕ) (r : Register) (i j : ℕ) → Same p s latency (place.Register r) none-withheld → Output p (place.Register r) i j →
+      s .cycle i + latency i < s .cycle j + latency j
+  output-from latency r i j same (l, h, wi, wj) =
+      let a = same-agrees latency (place.Register r) same .order i j (omega arith) h wi wj in
+      let b = a .1 (omega arith) in
+      omega arith
+
+  pub always-whole : Always-same p s → Whole-same p s
+  always-whole same latency timing x = same latency timing (λ _. none-withheld) x
+
 module _ (p : Program) (s : Schedule) (sound : Sound p s) where
   register-agrees : Kept p s → (latency : ℕ → ℕ) → Timing p latency → (r : Register) →
       Agree (p .size) (p .accesses (place.Register r)) (scheduled s latency (place.Register r)) written
@@ -77,31 +105,7 @@ module _ (p : Program) (s : Schedule) (sound : Sound p s) where
       order-decides (p .size) (without (withheld x) (p .accesses x)) (scheduled s latency x) written
       (withheld-agrees (p .size) (p .accesses x) (scheduled s latency x) written (withheld x) (kept-agrees kept latency timing x))
 
-  -- the converse: what equal histories say of a pair of operations
-  pub same-agrees : (latency : ℕ → ℕ) (x : Place) → Same p s latency x none-withheld → Agree (p .size) (p .accesses x) (scheduled s latency x) written
-  same-agrees latency x same = history-decides (p .size) (p .accesses x) (scheduled s latency x) written same
-
-  pub flow-from : (latency : ℕ → ℕ) (r : Register) (i j : ℕ) → Same p s latency (place.Register r) none-withheld → Flow p (place.Register r) i j →
-      s .cycle i + latency i ≤ s .cycle j
-  flow-from latency r i j same (l, h, wi, rj) =
-      let a = same-agrees latency (place.Register r) same .seen i j (omega arith) h wi rj in
-      let b = a .1 (omega arith) in
-      omega arith
-
-  pub anti-from : (latency : ℕ → ℕ) (r : Register) (i j : ℕ) → Same p s latency (place.Register r) none-withheld → Anti p (place.Register r) i j →
-      s .cycle i < s .cycle j + latency j
-  anti-from latency r i j same (l, h, ri, wj) =
-      let a = same-agrees latency (place.Register r) same .seen j i h (omega arith) wj ri in
-      elim (cases-lt (s .cycle i) (s .cycle j + latency j)) [ inl x ↦ x | inr g ↦ absurd (let b = a .0 (omega arith) in omega arith) ]
-
-  pub output-from : (latency : ℕ → ℕ) (r : Register) (i j : ℕ) → Same p s latency (place.Register r) none-withheld → Output p (place.Register r) i j →
-      s .cycle i + latency i < s .cycle j + latency j
-  output-from latency r i j same (l, h, wi, wj) =
-      let a = same-agrees latency (place.Register r) same .order i j (omega arith) h wi wj in
-      let b = a .1 (omega arith) in
-      omega arith
-
-  -- no two memory operations act at one position
+  -- the converse: no two memory operations act at one position
   positions-apart : (i j : ℕ) → Conflict p i j → position s i ≡ position s j → ⊥
   positions-apart i j (l, h, ui, uj, o) e =
       let hi = sound .in-slots i (omega arith) in
@@ -116,7 +120,7 @@ module _ (p : Program) (s : Schedule) (sound : Sound p s) where
       m = p .accesses place.Memory
 
       a : Agree (p .size) m (scheduled s latency place.Memory) written
-      a = same-agrees latency place.Memory same
+      a = same-agrees p s latency place.Memory same
 
       stores : m .writes i ≡ true → m .writes j ≡ true → position s i < position s j
       stores wi wj = a .order i j (omega arith) h wi wj .1 (omega arith)
@@ -145,9 +149,9 @@ module _ (p : Program) (s : Schedule) (sound : Sound p s) where
 
   broken : Broken-shows p s
   broken = record {
-    flow = λ r i j d bad latency e same. bad (rw e at (flow-from latency r i j same d));
-    anti = λ r i j d bad latency e same. bad (rw e at (anti-from latency r i j same d));
-    output = λ r i j d bad latency e f same. bad (rw (e, f) at (output-from latency r i j same d));
+    flow = λ r i j d bad latency e same. bad (rw e at (flow-from p s latency r i j same d));
+    anti = λ r i j d bad latency e same. bad (rw e at (anti-from p s latency r i j same d));
+    output = λ r i j d bad latency e f same. bad (rw (e, f) at (output-from p s latency r i j same d));
     in-memory = λ i j d bad latency same. bad (memory-from latency i j same d);
   }
 
@@ -173,23 +177,20 @@ module _ (p : Program) (s : Schedule) (sound : Sound p s) where
 
   pub same-kept : Whole-same p s → Kept p s
   same-kept same = record {
-    flow = λ r i j d. rw (late-here i) at (flow-from (late-at i) r i j (at i (place.Register r)) d);
-    anti = λ r i j d. rw (late-elsewhere i j (d .0)) at (anti-from (late-at i) r i j (at i (place.Register r)) d);
-    output = λ r i j d. rw (late-here i, late-elsewhere i j (d .0)) at (output-from (late-at i) r i j (at i (place.Register r)) d);
+    flow = λ r i j d. rw (late-here i) at (flow-from p s (late-at i) r i j (at i (place.Register r)) d);
+    anti = λ r i j d. rw (late-elsewhere i j (d .0)) at (anti-from p s (late-at i) r i j (at i (place.Register r)) d);
+    output = λ r i j d. rw (late-here i, late-elsewhere i j (d .0)) at (output-from p s (late-at i) r i j (at i (place.Register r)) d);
     in-memory = λ i j d. memory-from (late-at i) i j (at i place.Memory) d;
   }
     where
       at : (i : ℕ) (x : Place) → Same p s (late-at i) x none-withheld
       at i x = same (late-at i) (late-timing i) x
 
-  pub always-whole : Always-same p s → Whole-same p s
-  always-whole same latency timing x = same latency timing (λ _. none-withheld) x
-
 pub kept-is-always-same : Kept-is-always-same
-kept-is-always-same p s sound = (kept-same p s sound, λ same. same-kept p s sound (always-whole p s sound same))
+kept-is-always-same p s sound = (kept-same p s sound, λ same. same-kept p s sound (always-whole p s same))
 
 pub kept-is-whole-same : Kept-is-whole-same
-kept-is-whole-same p s sound = (λ kept. always-whole p s sound (kept-same p s sound kept), same-kept p s sound)
+kept-is-whole-same p s sound = (λ kept. always-whole p s (kept-same p s sound kept), same-kept p s sound)
 
 pub broken-always-shows : Broken-always-shows
 broken-always-shows p s sound = broken p s sound

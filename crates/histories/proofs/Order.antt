@@ -112,8 +112,8 @@ module _ (n : ℕ) (a b : Accesses) (k l : Clock) (same : history n a k ≡ hist
       let both = and-parts (b .reads r) _ (sym same-test ∙ and-from (a .reads r) (eqb m m) e (eq-eqb m m refl)) in
       (both .0, eqb-true (level n b l (l .reads-at r)) m (both .1))
 
-pub history-names : History-names-accesses
-history-names n a b k l same i h = (
+pub history-names-accesses : History-names-accesses
+history-names-accesses n a b k l same i h = (
   bool-iff (a .writes i) (b .writes i) (λ e. same-writer n a b k l same i h e .0) (λ e. same-writer n b a l k (sym same) i h e .0),
   bool-iff (a .reads i) (b .reads i) (λ e. same-reader n a b k l same i h e .0) (λ e. same-reader n b a l k (sym same) i h e .0),
 )

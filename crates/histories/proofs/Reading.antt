@@ -9,7 +9,7 @@ use Rattle.std.proofs.shelf.Counted.{length-map-counting, getD-map-counting}
 use Rattle.std.proofs.shelf.Tests.{eqb-true, and-parts}
 use Rattle.histories.specs.Below.{greatest-below, listed}
 use Rattle.histories.specs.History.{Accesses, Clock, entry, landing}
-use Rattle.histories.specs.Reading.{Writer-in, Reader-in, Reads-as, History-reads-so}
+use Rattle.histories.specs.Reading.{Writer-in, Reader-in, Reads-as, History-shows-order}
 use Rattle.histories.proofs.Counts.{some-found, count-reached, listed-those, listed-within}
 use Rattle.histories.proofs.Levels.{level, at-level, height, levelled, same-by-levels, lands-there}
 use Rattle.histories.proofs.Order.{reached, below-height}
@@ -77,5 +77,5 @@ module _ (n : ℕ) (a : Accesses) (k : Clock) where
         (λ h. let z = q .0 h in omega arith, λ h. q .1 (omega arith));
   }
 
-pub history-reads : History-reads-so
-history-reads n a k = subst (λ es. Reads-as n a k es) (sym (same-by-levels n a k)) (levels-read n a k)
+pub history-shows-order : History-shows-order
+history-shows-order n a k = subst (λ es. Reads-as n a k es) (sym (same-by-levels n a k)) (levels-read n a k)

@@ -22,13 +22,13 @@ abbrev pub early : Schedule
 early = record { cycle = λ i. cond (eqb i 0) 0 (i + 1); slot = λ i. 0 }
 
 -- the result of 0 lands in cycle 3, those of 2 and 3 land in cycle 6
-abbrev pub slow : ℕ → ℕ
-slow i = cond (eqb i 0) 3 (5 - i)
+abbrev pub latencies : ℕ → ℕ
+latencies i = cond (eqb i 0) 3 (5 - i)
 
 -- 1 reads too early, and 2 and 3 land together
 abbrev pub Scheduled-example : Type 0
 Scheduled-example = (r : Register) →
-    history 4 four (scheduled early slow (place.Register r)) ≡ entry [] (1 ∷ []) ∷ entry (0 ∷ []) (2 ∷ []) ∷ entry (2 ∷ 3 ∷ []) [] ∷ []
+    history 4 four (scheduled early latencies (place.Register r)) ≡ entry [] (1 ∷ []) ∷ entry (0 ∷ []) (2 ∷ []) ∷ entry (2 ∷ 3 ∷ []) [] ∷ []
 
 -- one operation after the other, d cycles apart
 abbrev pub serial : ℕ → Schedule

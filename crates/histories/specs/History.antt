@@ -23,6 +23,7 @@ pub record Entry : Type 0 where
   pub writers : List ℕ
   pub readers : List ℕ
 
+-- an entry from its two lists
 abbrev pub entry : List ℕ → List ℕ → Entry
 entry ws rs = record { writers = ws; readers = rs }
 

@@ -41,6 +41,7 @@ scheduled s latency place.Memory = record { lands-at = position s; reads-at = po
 abbrev pub without : (ℕ → Bool) → Accesses → Accesses
 without withheld a = record { writes = λ i. not (withheld i) && a .writes i; reads = a .reads }
 
+-- no write is withheld
 abbrev pub none-withheld : ℕ → Bool
 none-withheld i = false
 
@@ -103,12 +104,14 @@ pub record Kept (p : Program) (s : Schedule) : Type 0 where
   pub output : (r : Register) (i j : ℕ) → Output p (place.Register r) i j → Output-kept p s i j
   pub in-memory : (i j : ℕ) → Conflict p i j → Conflict-kept s i j
 
--- what is taken of a program and its schedule: a result takes a cycle at least, no operation both stores and loads, a cycle has at
--- most 8 slots, and no two memory operations are in one slot of one cycle
+-- what is taken of a program and its schedule
 pub record Sound (p : Program) (s : Schedule) : Type 0 where
+  -- a result takes a cycle at least, and its bounds are in order
   pub takes-time : (i : ℕ) → i < p .size → 1 ≤ p .shortest i
   pub bounds : (i : ℕ) → i < p .size → p .shortest i ≤ p .longest i
+  -- no operation both stores and loads
   pub one-way : (i : ℕ) → i < p .size → p .accesses place.Memory .writes i ≡ true → p .accesses place.Memory .reads i ≡ true → ⊥
+  -- a cycle has at most 8 slots, and no two memory operations have one slot of one cycle
   pub in-slots : (i : ℕ) → i < p .size → s .slot i < 8
   pub apart : (i j : ℕ) → i < j → j < p .size → uses (p .accesses place.Memory) i ≡ true → uses (p .accesses place.Memory) j ≡ true →
       s .cycle i ≡ s .cycle j → s .slot i ≡ s .slot j → ⊥
@@ -121,17 +124,21 @@ Kept-is-always-same = (p : Program) (s : Schedule) → Sound p s → Kept p s �
 abbrev pub Kept-is-whole-same : Type 0
 Kept-is-whole-same = (p : Program) (s : Schedule) → Sound p s → Kept p s ↔ Whole-same p s
 
--- a broken dependence gives its place another history wherever i takes its longest time (flow, output) and j its shortest (anti, output),
--- whatever the other latencies are, with nothing withheld
+-- a broken dependence of i and j gives its place another history, whatever the other latencies are, with nothing withheld
 pub record Broken-shows (p : Program) (s : Schedule) : Type 0 where
+  -- where i takes its longest time
   pub flow : (r : Register) (i j : ℕ) → Flow p (place.Register r) i j → ¬ Flow-kept p s i j →
       (latency : ℕ → ℕ) → latency i ≡ p .longest i → ¬ Same p s latency (place.Register r) none-withheld
+  -- where j takes its shortest time
   pub anti : (r : Register) (i j : ℕ) → Anti p (place.Register r) i j → ¬ Anti-kept p s i j →
       (latency : ℕ → ℕ) → latency j ≡ p .shortest j → ¬ Same p s latency (place.Register r) none-withheld
+  -- where i takes its longest time and j its shortest
   pub output : (r : Register) (i j : ℕ) → Output p (place.Register r) i j → ¬ Output-kept p s i j →
       (latency : ℕ → ℕ) → latency i ≡ p .longest i → latency j ≡ p .shortest j → ¬ Same p s latency (place.Register r) none-withheld
+  -- at all latencies
   pub in-memory : (i j : ℕ) → Conflict p i j → ¬ Conflict-kept s i j →
       (latency : ℕ → ℕ) → ¬ Same p s latency place.Memory none-withheld
 
+-- so it is of every program and schedule
 abbrev pub Broken-always-shows : Type 0
 Broken-always-shows = (p : Program) (s : Schedule) → Sound p s → Broken-shows p s

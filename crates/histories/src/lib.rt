@@ -7,7 +7,7 @@ pub use examples::scheduled_example;
 pub use examples::serial_is_kept;
 pub use examples::written_example;
 pub use orders::history_names_accesses;
-pub use orders::history_reads_so;
+pub use orders::history_shows_order;
 pub use orders::order_decides_history;
 pub use schedules::broken_always_shows;
 pub use schedules::kept_is_always_same;

@@ -1,6 +1,6 @@
 // What decides the history of a place, and what a history says.
 ghost use Rattle.histories.specs.History.{Order-decides-history};
-ghost use Rattle.histories.specs.Reading.{History-names-accesses, History-reads-so};
+ghost use Rattle.histories.specs.Reading.{History-names-accesses, History-shows-order};
 
 // Two clocks give a place one history if and only if they order its writers, and its writers and readers, alike.
 pub fn order_decides_history() -> u8
@@ -17,8 +17,8 @@ pub fn history_names_accesses() -> u8
 }
 
 // Each access stands in one entry, and a read finds the writes of its own entry and of those before.
-pub fn history_reads_so() -> u8
-    ensures { λ _. ⌜ History-reads-so ⌝ }
+pub fn history_shows_order() -> u8
+    ensures { λ _. ⌜ History-shows-order ⌝ }
 {
     0
 }
