@@ -23,7 +23,7 @@ pub record Reads-as (n : ℕ) (a : Accesses) (k : Clock) (es : List Entry) : Typ
   pub reader : (r : ℕ) → r < n → a .reads r ≡ true → (b : ℕ) × Reader-in es b r
   pub only-writers : (w b : ℕ) → Writer-in es b w → (w < n) × (a .writes w ≡ true)
   pub only-readers : (r b : ℕ) → Reader-in es b r → (r < n) × (a .reads r ≡ true)
-  -- and is named as such in one entry alone
+  -- each writer in one entry alone, and each reader in one alone
   pub writer-once : (w b c : ℕ) → Writer-in es b w → Writer-in es c w → b ≡ c
   pub reader-once : (r b c : ℕ) → Reader-in es b r → Reader-in es c r → b ≡ c
   -- the first entry has no writer, and every other entry has one
