@@ -2,6 +2,8 @@
 mod compare;
 mod integer;
 mod shift;
+#[cfg(test)]
+mod tests;
 mod text;
 
 pub use compare::Action;

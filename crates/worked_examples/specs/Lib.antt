@@ -1,0 +1,2 @@
+pub mod Execution
+pub mod Table
