@@ -1,8 +1,9 @@
 // Registers and places.
 ghost use mathlib.Core.Path.{_≡_};
 ghost use mathlib.Core.Bool.{not};
+ghost use Prim.Native.Nat.{_+_, _%_};
 ghost use Rattle.std.specs.Options.{isSome};
-ghost use Rattle.registers.specs.Registers.{numbered, rotated, general-place, predicate-place, general-constant, predicate-constant, physical-general, physical-predicate};
+ghost use Rattle.registers.specs.Registers.{numbered, general-place, predicate-place, general-constant, predicate-constant, physical-general, physical-predicate};
 use crate::number::RegisterNumber;
 use crate::number::RegisterNumberDebug;
 
@@ -41,22 +42,15 @@ impl RegisterNumber {
     pub fn new(number: u8) -> Option<RegisterNumber>
         ensures { λ r. ⌜ r ≡ numbered number ⌝ }
     {
-        if number < REGISTERS {
-            Some(RegisterNumber { number })
-        } else {
-            None
+        if number >= REGISTERS {
+            return None;
         }
-    }
-
-    pub fn get(self) -> u8
-        ensures { λ r. ⌜ r ≡ self .number ⌝ }
-    {
-        self.number
+        Some(RegisterNumber { number })
     }
 
     // The physical number of the rotating register with this number.
     pub fn rotated(self, rrb: RegisterNumber) -> RegisterNumber
-        ensures { λ r. ⌜ r ≡ rotated self rrb ⌝ }
+        ensures { λ r. ⌜ r .number ≡ (self .number + rrb .number) % 32 ⌝ }
     {
         RegisterNumber {
             number: (self.number + rrb.number) % REGISTERS,

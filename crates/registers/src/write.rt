@@ -16,10 +16,10 @@ impl General {
     pub fn write(self, value: u32) -> Option<Write>
         ensures { λ r. ⌜ r ≡ word-write self value ⌝ }
     {
-        match self.place() {
-            Some(_) => Some(Write::Word { to: self, value }),
-            None => None,
+        if self.constant().is_some() {
+            return None;
         }
+        Some(Write::Word { to: self, value })
     }
 }
 
@@ -28,9 +28,9 @@ impl Predicate {
     pub fn write(self, value: bool) -> Option<Write>
         ensures { λ r. ⌜ r ≡ bit-write self value ⌝ }
     {
-        match self.place() {
-            Some(_) => Some(Write::Bit { to: self, value }),
-            None => None,
+        if self.constant().is_some() {
+            return None;
         }
+        Some(Write::Bit { to: self, value })
     }
 }
