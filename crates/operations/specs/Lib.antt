@@ -3,3 +3,4 @@ pub mod Effects
 pub mod Refusals
 pub mod Texts
 pub mod Typing
+pub mod Raw

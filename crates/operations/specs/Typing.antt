@@ -95,7 +95,7 @@ known-operand (operand.the-variants.Literal z) = true
 abbrev pub names-exist : RawOperation → Bool
 names-exist q = isSome (predicate-of (q .guard)) && (each known-name (q .destinations) && each known-operand (q .sources))
 
-abbrev guarded : Option Predicate → Option Form → Result Operation Refusal
+abbrev pub guarded : Option Predicate → Option Form → Result Operation Refusal
 guarded None f = Err NoSuch
 guarded (Some g) None = Err WrongOperands
 guarded (Some g) (Some f) = Ok (record { guard = g; form = f })

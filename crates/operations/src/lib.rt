@@ -5,6 +5,8 @@ mod operation;
 mod raw;
 mod refusal;
 mod targets;
+#[cfg(test)]
+mod tests;
 mod text;
 mod typing;
 

@@ -2,6 +2,7 @@
 ghost use mathlib.Core.Path.{_≡_};
 ghost use Rattle.std.specs.Options.{mapped, flattened};
 ghost use Rattle.registers.specs.Registers.{one-place};
+ghost use Rattle.operations.specs.Raw.{Accepts};
 ghost use Rattle.operations.specs.Typing.{general-named, predicate-named, source-of, address-of, zero, one, two, targets-of, form-of, names-exist, typed-of, each, known-name, known-operand};
 use crate::operation::Form;
 use crate::operation::Operation;
@@ -233,8 +234,7 @@ impl RawOperation {
         }
     }
 
-    // The typed operation. Refused where a register is missing, and then where the operands do not fit the opcode.
-    pub fn typed(self) -> Result<Operation, Refusal>
+    fn operation(self) -> Result<Operation, Refusal>
         ensures { λ r. ⌜ r ≡ typed-of self ⌝ }
     {
         if !self.names_exist() {
@@ -247,5 +247,13 @@ impl RawOperation {
             Some(form) => Ok(Operation { guard, form }),
             None => Err(Refusal::WrongOperands),
         }
+    }
+
+    // The typed operation. Refused where a register is missing, and then where the operands do not fit the opcode.
+    pub fn typed(self) -> Result<Operation, Refusal>
+        ensures value { λ r. ⌜ r ≡ typed-of self ⌝ }
+        ensures exact { λ r. ⌜ Accepts self r ⌝ }
+    {
+        self.operation()
     }
 }
