@@ -1,0 +1,4 @@
+mod Parts
+mod Pairwise
+mod Linked
+mod Shown

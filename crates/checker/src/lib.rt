@@ -1,0 +1,5 @@
+// Which schedules keep the dependences of a block.
+mod dependence;
+mod judge;
+mod pair;
+mod placed;
