@@ -1,0 +1,16 @@
+// The machine's description, and sixteen blocks of operations, each placed at a cycle and a slot or not yet placed.
+mod describing;
+mod description;
+mod exit;
+mod exits;
+mod position;
+
+pub use description::Bounds;
+pub use description::Description;
+pub use description::Slot;
+pub use description::Slots;
+pub use exit::BlockNumber;
+pub use exit::Exit;
+pub use exit::RawExit;
+pub use position::Entry;
+pub use position::Position;
