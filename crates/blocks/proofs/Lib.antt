@@ -1,2 +1,5 @@
 pub mod Makes
 pub mod Numbers
+pub mod Positions
+pub mod Missing
+pub mod Moves

@@ -1,3 +1,6 @@
 pub mod Steps
 pub mod Machine
 pub mod Exits
+pub mod Entries
+pub mod Model
+pub mod View

@@ -1,8 +1,10 @@
 // The machine's description, and sixteen blocks of operations, each placed at a cycle and a slot or not yet placed.
+mod block;
 mod describing;
 mod description;
 mod exit;
 mod exits;
+mod filling;
 mod position;
 
 pub use description::Bounds;
