@@ -3,3 +3,5 @@ pub mod Numbers
 pub mod Positions
 pub mod Missing
 pub mod Moves
+pub mod Keeps
+pub mod Within

@@ -4,3 +4,5 @@ pub mod Exits
 pub mod Entries
 pub mod Model
 pub mod View
+pub mod Calls
+pub mod Whole

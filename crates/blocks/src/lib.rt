@@ -1,5 +1,7 @@
 // The machine's description, and sixteen blocks of operations, each placed at a cycle and a slot or not yet placed.
 mod block;
+mod blocks;
+mod calls;
 mod describing;
 mod description;
 mod exit;
@@ -7,6 +9,7 @@ mod exits;
 mod filling;
 mod position;
 
+pub use blocks::Blocks;
 pub use description::Bounds;
 pub use description::Description;
 pub use description::Slot;
