@@ -61,8 +61,8 @@ module _ {X : Type 0} (B : Blocks) (n : ℕ) (x w : Block) (r : Result X Refusal
   within = record {
     answered = did .answered ∙ sym (ap answer opened ∙ answer-back (step (body-of x)));
     left =
-      ap with-bodies (map-set body-of (B .blocks .items) n w ∙ ap (set (bodies-of (B .blocks .items)) n) (did .left))
-      ∙ sym (ap (after (state-of B)) opened ∙ after-back (step (body-of x)));
+        ap with-bodies (map-set body-of (B .blocks .items) n w ∙ ap (set (bodies-of (B .blocks .items)) n) (did .left))
+        ∙ sym (ap (after (state-of B)) opened ∙ after-back (step (body-of x)));
   }
 
   good-at : (k : ℕ) → Good (slots-of (B .description .slots)) k (getD (bodies-of (B .blocks .items)) k empty)

@@ -55,13 +55,7 @@ impl Blocks {
     }
 
     // Places an operation of the block, or moves it.
-    pub fn place(
-        &mut self,
-        block: u8,
-        operation: u8,
-        cycle: u16,
-        slot: u8,
-    ) -> Result<(), Refusal>
+    pub fn place(&mut self, block: u8, operation: u8, cycle: u16, slot: u8) -> Result<(), Refusal>
         ensures { λ r. ⌜ Did (state-of (now (self .entry))) (state-of (now (self .exit))) r (place-call (state-of (now (self .entry))) block operation cycle slot) ⌝ }
     {
         if block >= BLOCKS {

@@ -8,6 +8,8 @@ mod exit;
 mod exits;
 mod filling;
 mod position;
+#[cfg(test)]
+mod tests;
 
 pub use blocks::Blocks;
 pub use description::Bounds;
