@@ -1,0 +1,141 @@
+// What is done to one block.
+ghost use mathlib.Core.Path.{_≡_};
+ghost use Prim.Native.Nat.{ℕ};
+ghost use Rattle.std.specs.Vec.{made};
+ghost use Rattle.std.specs.declared.option.Option.the-variants.{Some};
+ghost use Rattle.blocks.specs.Steps.{Did};
+ghost use Rattle.blocks.specs.Machine.{slots-of};
+ghost use Rattle.blocks.specs.Entries.{clash, occupied};
+ghost use Rattle.blocks.specs.Model.{empty, with-exit, topmost, add-step, place-step, lift-step};
+ghost use Rattle.blocks.specs.View.{body-of};
+use crate::block::Block;
+use crate::description::Description;
+use crate::exit::Exit;
+use crate::position::Entry;
+use crate::position::Position;
+use operations::RawOperation;
+use operations::Refusal;
+use std::alloc::AllocError;
+use std::alloc::Global;
+
+// How many operations a block may have.
+const OPERATIONS: usize = 64;
+
+// How many cycles a block may take.
+const CYCLES: u16 = 1024;
+
+// Whether the entry is placed there.
+fn is_at(entry: &Entry, position: Position) -> bool
+    ensures { λ r. ⌜ r ≡ clash (now (entry .entry) .position) (Some position) ⌝ }
+{
+    match entry.position {
+        Some(p) => p.cycle == position.cycle && p.slot == position.slot,
+        None => false,
+    }
+}
+
+// Whether another operation than that of number `own` is placed there.
+fn occupied(entries: &[Entry], own: usize, position: Position) -> bool
+    ensures { λ r. ⌜ r ≡ occupied (now (entries .entry)) own position ⌝ }
+{
+    for (k, entry) in entries.iter().enumerate() {
+        if k != own && is_at(entry, position) {
+            return true;
+        }
+    }
+    false
+}
+
+// The refusal of an operation for a block that may be full as well: the one whose row is above.
+fn topmost(refusal: Refusal, full: bool) -> Refusal
+    ensures { λ r. ⌜ r ≡ topmost refusal full ⌝ }
+{
+    if refusal.number() > Refusal::BlockFull.number() && full {
+        Refusal::BlockFull
+    } else {
+        refusal
+    }
+}
+
+impl Block {
+    // An empty block, with room for all that it may get.
+    pub(crate) fn new(heap: Global) -> Result<Block, AllocError>
+        ensures { λ r. ⌜ made r (λ b. body-of b ≡ empty) ⌝ }
+    {
+        let entries = Vec::with_capacity(heap, OPERATIONS)?;
+        Ok(Block {
+            entries,
+            exit: Exit::Halt,
+        })
+    }
+
+    pub(crate) fn add(&mut self, operation: RawOperation) -> Result<u8, Refusal>
+        ensures { λ r. ⌜ Did (body-of (now (self .entry))) (body-of (now (self .exit))) r (add-step (body-of (now (self .entry))) operation) ⌝ }
+    {
+        let count = self.entries.len();
+        let full = count >= OPERATIONS;
+        match operation.typed() {
+            Err(refusal) => Err(topmost(refusal, full)),
+            Ok(operation) => {
+                if full {
+                    return Err(Refusal::BlockFull);
+                }
+                self.entries.push_reserved(Entry {
+                    operation,
+                    position: None,
+                });
+                Ok(count as u8)
+            }
+        }
+    }
+
+    // Places the operation, or moves it.
+    pub(crate) fn place(
+        &mut self,
+        description: &Description,
+        operation: u8,
+        cycle: u16,
+        slot: u8,
+    ) -> Result<(), Refusal>
+        ensures { λ r. ⌜ Did (body-of (now (self .entry))) (body-of (now (self .exit))) r (place-step (slots-of (now (description .entry) .slots)) (body-of (now (self .entry))) operation cycle slot) ⌝ }
+    {
+        let i = operation as usize;
+        if i >= self.entries.len() || slot >= description.slots.count {
+            return Err(Refusal::NoSuch);
+        }
+        if cycle >= CYCLES {
+            return Err(Refusal::BeyondLimit);
+        }
+        let class = self.entries[i].operation.class();
+        if !description.takes(slot, class) {
+            return Err(Refusal::ClassNotTaken);
+        }
+        let position = Position { cycle, slot };
+        if occupied(self.entries.as_slice(), i, position) {
+            return Err(Refusal::Occupied);
+        }
+        self.entries[i].position = Some(position);
+        Ok(())
+    }
+
+    // Takes the operation from its place.
+    pub(crate) fn lift(&mut self, operation: u8) -> Result<(), Refusal>
+        ensures { λ r. ⌜ Did (body-of (now (self .entry))) (body-of (now (self .exit))) r (lift-step (body-of (now (self .entry))) operation) ⌝ }
+    {
+        let i = operation as usize;
+        if i >= self.entries.len() {
+            return Err(Refusal::NoSuch);
+        }
+        if self.entries[i].position.is_none() {
+            return Err(Refusal::Unplaced(operation));
+        }
+        self.entries[i].position = None;
+        Ok(())
+    }
+
+    pub(crate) fn leave_by(&mut self, exit: Exit)
+        ensures { λ _. ⌜ body-of (now (self .exit)) ≡ with-exit (body-of (now (self .entry))) exit ⌝ }
+    {
+        self.exit = exit;
+    }
+}
