@@ -22,6 +22,7 @@ use Rattle.blocks.specs.declared.block.Block.{Block}
 use Rattle.blocks.specs.declared.blocks.Blocks.{Blocks}
 use Rattle.blocks.specs.Steps.{Outcome, answer, after, Did}
 use Rattle.blocks.specs.Machine.{slots-of}
+use Rattle.blocks.specs.Entries.{All-fit, Well-placed}
 use Rattle.blocks.specs.Exits.{goes-on}
 use Rattle.blocks.specs.Model.{Body, empty}
 use Rattle.blocks.specs.Calls.{State, body-at, block-at, put-back, in-block}
@@ -114,3 +115,12 @@ pub exit-read : (B : Blocks) (n : ℕ) (x : Block) → n < 16 → x ≡ getD (B 
 exit-read B n x h read =
     sym (ap (λ t. mapped (λ (b : Body). b .exit) (cond t (Some (body-at (state-of B) n)) None)) (lt-ltb n 16 h)
     ∙ ap (λ (b : Body). Some (b .exit)) (body-read (B .blocks .items) n x (long B n h) read))
+
+pub well-placed-read : (B : Blocks) (n : ℕ) (x : Block) → n < 16 → x ≡ getD (B .blocks .items) n x → Well-placed (slots-of (B .description .slots)) (x .entries .items)
+well-placed-read B n x h read =
+    let P : Body → Type 0 = λ b. All-fit (slots-of (B .description .slots)) (b .entries) in
+    record {
+      few = omega (arith, x .few, x .entries .ok .0);
+      apart = x .apart;
+      fit = subst P (body-read (B .blocks .items) n x (long B n h) read) (B .fit n);
+    }

@@ -2,9 +2,9 @@
 use mathlib.Core.Path.{_≡_, refl}
 use mathlib.Core.Bool.{Bool, true, false, cond, _&&_, _||_}
 use mathlib.Core.List.{List, [], _∷_, map}
-use Prim.Native.Nat.{ℕ, zero, suc, _+_}
+use Prim.Native.Nat.{ℕ, zero, suc, _+_, _≤_}
 use lib.Dec.{eqb, ltb}
-use lib.ListN.{getD, set}
+use lib.ListN.{length, getD, set}
 use Rattle.std.proofs.shelf.Tests.{ltb-true, and-parts}
 use Rattle.std.specs.Options.{isSome}
 use Rattle.std.specs.declared.option.Option.{Option}
@@ -94,6 +94,12 @@ fits-slot slots e = fits-position slots (entry-class e) (e .position)
 
 abbrev pub All-fit : List Slot → List Entry → Type 0
 All-fit slots es = (i : ℕ) → getD (map (fits-slot slots) es) i true ≡ true
+
+-- what always holds of the operations of a block
+pub record Well-placed (slots : List Slot) (es : List Entry) : Type 0 where
+  pub few : length es ≤ 64
+  pub apart : Apart es
+  pub fit : All-fit slots es
 
 -- the entries, with operation i placed there, or nowhere
 abbrev pub put : List Entry → ℕ → Option Position → List Entry

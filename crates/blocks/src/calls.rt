@@ -8,6 +8,8 @@ ghost use Rattle.std.specs.Vec.{made};
 ghost use Rattle.blocks.specs.Steps.{Did};
 ghost use Rattle.blocks.specs.Model.{empty};
 ghost use Rattle.blocks.specs.Calls.{fresh, body-at, block-at, add-call, place-call, lift-call, exit-call};
+ghost use Rattle.blocks.specs.Entries.{Well-placed};
+ghost use Rattle.blocks.specs.Machine.{slots-of};
 ghost use Rattle.blocks.specs.View.{bodies-of};
 ghost use Rattle.blocks.specs.Whole.{state-of};
 use crate::block::Block;
@@ -97,7 +99,7 @@ impl Blocks {
 
     // The operations of the block, in written order.
     pub fn entries(&self, block: u8) -> Option<&[Entry]>
-        ensures { λ r. ⌜ BySome r (16 ≤ block) (λ es. (block < 16) × (now es ≡ body-at (state-of (now (self .entry))) block .entries)) ⌝ }
+        ensures { λ r. ⌜ BySome r (16 ≤ block) (λ es. (block < 16) × (now es ≡ body-at (state-of (now (self .entry))) block .entries) × Well-placed (slots-of (state-of (now (self .entry)) .description .slots)) (now es)) ⌝ }
     {
         if block >= BLOCKS {
             return None;
