@@ -1,3 +1,5 @@
 pub mod Pairs
+pub mod Programs
 pub mod Seen
 pub mod Verdicts
+pub mod Checks

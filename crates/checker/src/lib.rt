@@ -1,5 +1,13 @@
 // Which schedules keep the dependences of a block.
+mod checking;
 mod dependence;
-mod judge;
 mod pair;
+mod pairs;
 mod placed;
+mod seeing;
+mod verdict;
+
+pub use checking::check;
+pub use verdict::Verdict;
+pub use verdict::VerdictDebug;
+pub use verdict::VerdictPartialEq;

@@ -1,6 +1,6 @@
 use borrow.Author.Count.{below-more}
 use native.Mathlib.Omega.{arith}
-use Rattle.checker.proofs.judge.first_broken.Needs as need
+use Rattle.checker.proofs.pairs.first_broken.Needs as need
 
 pub loop-j-again : need.loop-j-again
 loop-j-again c = below-more _ _ (c .loop-j .inv) (c .in-rest .ensures tt)

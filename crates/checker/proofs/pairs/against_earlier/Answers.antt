@@ -1,6 +1,6 @@
 use native.Mathlib.Omega.{arith}
 use Rattle.checker.proofs.Pairwise.{kept-more}
-use Rattle.checker.proofs.judge.against_earlier.Needs as need
+use Rattle.checker.proofs.pairs.against_earlier.Needs as need
 
 pub loop-i-again : need.loop-i-again
 loop-i-again c =

@@ -1,0 +1,10 @@
+// What check answers.
+use operations::Violation;
+use operations::ViolationDebug;
+use operations::ViolationPartialEq;
+
+#[derive(Clone, Copy, PartialEq, Eq, Debug)]
+pub enum Verdict {
+    Kept,
+    Violated(Violation),
+}
