@@ -41,12 +41,20 @@ abbrev pub slots-of : Slots → List Slot
 slots-of s = take (s .count) (s .slots)
 
 -- one more slot, up to 8
-abbrev pub add-slot : List Slot → Slot → Outcome (Unit {0}) (List Slot)
-add-slot ss s = cond (ltb (length ss) 8) (Ok (tt, ss ++ s ∷ [])) (Err NoSuch)
+abbrev pub add-slot : Slots → Slot → Outcome (Unit {0}) (List Slot)
+add-slot s x = cond (ltb (s .count) 8) (Ok (tt, slots-of s ++ x ∷ [])) (Err NoSuch)
+
+-- slot i, where there is one
+abbrev pub slot-at : List Slot → ℕ → Option Slot
+slot-at ss i = getD (map (λ s. Some s) ss) i None
+
+abbrev pub serves-there : Class → Option Slot → Bool
+serves-there c None = false
+serves-there c (Some s) = serves s c
 
 -- whether there is a slot i, and it takes the class
 abbrev pub takes-class : List Slot → ℕ → Class → Bool
-takes-class ss i c = getD (map (λ s. serves s c) ss) i false
+takes-class ss i c = serves-there c (slot-at ss i)
 
 -- bounds in order, from 1 to 31
 abbrev pub in-order : ℕ → ℕ → Bool
