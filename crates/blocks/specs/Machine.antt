@@ -23,13 +23,16 @@ use Rattle.blocks.specs.declared.description.Bounds.{Bounds}
 use Rattle.blocks.specs.declared.description.Description.{Description}
 use Rattle.blocks.specs.Steps.{Outcome}
 
-abbrev pub slot-for : (i m c b : Bool) → (i || m || c) ≡ b → Option Slot
+abbrev pub takes-some : Bool → Bool → Bool → Bool
+takes-some i m c = i || m || c
+
+abbrev pub slot-for : (i m c b : Bool) → takes-some i m c ≡ b → Option Slot
 slot-for i m c true e = Some (record { integer = i; memory = m; compare = c; some = e })
 slot-for i m c false e = None
 
 -- the slot that takes these classes: there is none that takes no class
 abbrev pub slot-taking : Bool → Bool → Bool → Option Slot
-slot-taking i m c = slot-for i m c (i || m || c) refl
+slot-taking i m c = slot-for i m c (takes-some i m c) refl
 
 abbrev pub serves : Slot → Class → Bool
 serves s class.Integer = s .integer

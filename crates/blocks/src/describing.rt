@@ -1,9 +1,8 @@
 // How a description is made, and what it says.
 ghost use mathlib.Core.Path.{_≡_};
-ghost use mathlib.Core.Bool.{_||_};
 ghost use mathlib.Core.List.{[], _∷_};
 ghost use Rattle.blocks.specs.Steps.{Did};
-ghost use Rattle.blocks.specs.Machine.{slot-taking, serves, slots-of, add-slot, slot-at, takes-class, bounded, bounds-of};
+ghost use Rattle.blocks.specs.Machine.{takes-some, slot-taking, serves, slots-of, add-slot, slot-at, takes-class, bounded, bounds-of};
 use crate::description::Bounds;
 use crate::description::Description;
 use crate::description::Slot;
@@ -20,7 +19,7 @@ const LONGEST: u8 = 31;
 const SLOTS: u8 = 8;
 
 fn any(integer: bool, memory: bool, compare: bool) -> bool
-    ensures { λ r. ⌜ r ≡ (integer || memory || compare) ⌝ }
+    ensures { λ r. ⌜ r ≡ takes-some integer memory compare ⌝ }
 {
     integer || memory || compare
 }
