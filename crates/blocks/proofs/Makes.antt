@@ -20,7 +20,7 @@ use Rattle.operations.specs.declared.refusal.Refusal.the-variants.{NoSuch}
 use Rattle.blocks.specs.declared.description.Slot.{Slot}
 use Rattle.blocks.specs.declared.description.Slots.{Slots}
 use Rattle.blocks.specs.declared.description.Bounds.{Bounds}
-use Rattle.blocks.specs.Machine.{slot-for, slot-taking, serves, slots-of, add-slot, takes-class, in-order, bounds-for, bounded}
+use Rattle.blocks.specs.Machine.{slot-for, slot-taking, serves, slots-of, slot-at, in-order, bounds-for, bounded}
 
 abbrev slot : (i m c : Bool) → (i || m || c) ≡ true → Slot
 slot i m c e = record { integer = i; memory = m; compare = c; some = e }
@@ -54,19 +54,13 @@ bounds-there x = by (in-order (x .shortest) (x .longest)) refl (grind (arith, te
 pub length-slots : (s : Slots) → length (slots-of s) ≡ s .count
 length-slots s = length-take-le (s .count) (s .slots) (omega arith)
 
-pub takes-there : (s : Slots) (i : ℕ) (c : Class) (d : Slot) → i < s .count → takes-class (slots-of s) i c ≡ serves (getD (s .slots) i d) c
-takes-there s i c d h =
+pub slot-read : (s : Slots) (i : ℕ) (d : Slot) → i < s .count → Some (getD (s .slots) i d) ≡ slot-at (slots-of s) i
+slot-read s i d h =
     let l = length-slots s in
-    getD-map (λ x. serves x c) (slots-of s) i d false (omega arith) ∙ ap (λ x. serves x c) (getD-take (s .count) (s .slots) i d h)
+    ap (λ y. Some y) (sym (getD-take (s .count) (s .slots) i d h)) ∙ sym (getD-map (λ y. Some y) (slots-of s) i d None (omega arith))
 
-pub takes-past : (s : Slots) (i : ℕ) (c : Class) → s .count ≤ i → takes-class (slots-of s) i c ≡ false
-takes-past s i c h =
+pub slot-past : (s : Slots) (i : ℕ) → s .count ≤ i → None ≡ slot-at (slots-of s) i
+slot-past s i h =
     let l = length-slots s in
-    let m = length-map (slots-of s) (λ x. serves x c) in
-    getD-past (map (λ x. serves x c) (slots-of s)) i false (omega arith)
-
-pub room : (s : Slots) (x : Slot) → s .count < 8 → add-slot (slots-of s) x ≡ Ok (tt, slots-of s ++ x ∷ [])
-room s x h = let l = length-slots s in let t : ltb (length (slots-of s)) 8 ≡ true = grind (arith, tells) in ap (λ b. cond b (Ok (tt, slots-of s ++ x ∷ [])) (Err NoSuch)) t
-
-pub no-room : (s : Slots) (x : Slot) → 8 ≤ s .count → add-slot (slots-of s) x ≡ Err NoSuch
-no-room s x h = let l = length-slots s in let t : ltb (length (slots-of s)) 8 ≡ false = grind (arith, tells) in ap (λ b. cond b (Ok (tt, slots-of s ++ x ∷ [])) (Err NoSuch)) t
+    let m = length-map (slots-of s) (λ x. Some x) in
+    sym (getD-past (map (λ x. Some x) (slots-of s)) i None (omega arith))

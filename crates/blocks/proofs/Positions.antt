@@ -12,11 +12,11 @@ use lib.ListN.{length, getD, set, drop}
 use Rattle.std.specs.declared.option.Option.{Option}
 use Rattle.std.specs.declared.option.Option.the-variants.{Some, None}
 use Rattle.std.proofs.shelf.Lists.{getD-map, getD-set-same, getD-set-other, length-map, length-set, at-drop-more, at-drop-all}
-use Rattle.std.proofs.shelf.Tests.{cases-eq, both-ways, or-parts}
+use Rattle.std.proofs.shelf.Tests.{cases-eq, both-ways, not-true, or-parts}
 use Rattle.std.proofs.shelf.Ways.{tells}
 use Rattle.blocks.specs.declared.position.Position.{Position}
 use Rattle.blocks.specs.declared.position.Entry.{Entry}
-use Rattle.blocks.specs.Entries.{position-for, position-at, position-of, placed, clash, Apart, any-at, occupied, put}
+use Rattle.blocks.specs.Entries.{position-for, position-at, position-of, placed, clash, Apart, any-at, occupied, free, put}
 
 abbrev position : (c s : ℕ) → c < 1024 → s < 8 → Position
 position c s h k = record { cycle = c; slot = s; early = h; narrow = k }
@@ -69,7 +69,7 @@ clash-comm None (Some q) = refl
 clash-comm (Some p) None = refl
 clash-comm (Some p) (Some q) = ap₂ (λ a b. a && b) (eqb-comm (p .cycle) (q .cycle)) (eqb-comm (p .slot) (q .slot))
 
-pub clash-none : (p : Option Position) → clash p None ≡ false
+clash-none : (p : Option Position) → clash p None ≡ false
 clash-none None = refl
 clash-none (Some p) = refl
 
@@ -122,7 +122,7 @@ none-at p [] e j = refl
 none-at p (q ∷ qs) e zero = or-parts (clash q (Some p)) (any-at p qs) e .0
 none-at p (q ∷ qs) e (suc j) = none-at p qs (or-parts (clash q (Some p)) (any-at p qs) e .1) j
 
--- es′ are the entries as they were searched
-pub clear : (es es′ : List Entry) (i : ℕ) (p : Position) → es′ ≡ es → occupied es′ i p ≡ false → (j : ℕ) → (j ≡ i → ⊥) → clash (placed es j) (Some p) ≡ false
-clear es es′ i p same e j ne =
-    ap (λ q. clash q (Some p)) (sym (getD-set-other (map position-of es) i j None None ne)) ∙ none-at p (others es i) (ap (λ l. occupied l i p) (sym same) ∙ e) j
+pub clear : (es : List Entry) (i : ℕ) (p : Option Position) → free es i p ≡ true → (j : ℕ) → (j ≡ i → ⊥) → clash (placed es j) p ≡ false
+clear es i None e j ne = clash-none (placed es j)
+clear es i (Some p) e j ne =
+    ap (λ q. clash q (Some p)) (sym (getD-set-other (map position-of es) i j None None ne)) ∙ none-at p (others es i) (not-true (occupied es i p) e) j

@@ -8,8 +8,6 @@ use native.Mathlib.Omega.{arith}
 use borrow.Author.Tests.{lt-ltb}
 use lib.Dec.{ltb}
 use lib.ListN.{length, getD, set, replicate}
-use Rattle.std.specs.Options.{mapped}
-use Rattle.std.specs.declared.option.Option.the-variants.{Some, None}
 use Rattle.std.specs.declared.result.Result.{Result}
 use Rattle.std.specs.declared.result.Result.the-variants.{Ok, Err}
 use Rattle.std.proofs.shelf.Lists.{map-set, map-push, getD-map, set-getD, length-map, length-replicate, replicate-more, getD-set-same, getD-set-other}
@@ -25,16 +23,16 @@ use Rattle.blocks.specs.Machine.{slots-of}
 use Rattle.blocks.specs.Entries.{All-fit, Well-placed}
 use Rattle.blocks.specs.Exits.{goes-on}
 use Rattle.blocks.specs.Model.{Body, empty}
-use Rattle.blocks.specs.Calls.{State, body-at, block-at, put-back, in-block}
+use Rattle.blocks.specs.Calls.{State, body-at, put-back, in-block}
 use Rattle.blocks.specs.View.{body-of, bodies-of, Blocks-fit, Last-ends}
 use Rattle.blocks.specs.Whole.{state-of}
 use Rattle.blocks.proofs.Keeps.{Good}
 
 -- block n, as it is read
-pub body-read : (bs : List Block) (n : ℕ) (x : Block) → n < length bs → x ≡ getD bs n x → getD (bodies-of bs) n empty ≡ body-of x
+body-read : (bs : List Block) (n : ℕ) (x : Block) → n < length bs → x ≡ getD bs n x → getD (bodies-of bs) n empty ≡ body-of x
 body-read bs n x h read = getD-map body-of bs n x empty h ∙ ap body-of (sym read)
 
-pub long : (B : Blocks) (n : ℕ) → n < 16 → n < length (B .blocks .items)
+long : (B : Blocks) (n : ℕ) → n < 16 → n < length (B .blocks .items)
 long B n h = omega (arith, B .blocks .ok .0, B .sixteen)
 
 -- block n went from x to w and answered r, by that step
@@ -108,19 +106,10 @@ empty-good slots bs n e =
     (λ k. subst P (sym (at k)) g .0, (subst P (sym (at 15)) g .1 refl, tt))
 
 -- what is read of block n
-pub entries-read : (B : Blocks) (n : ℕ) (x : Block) → n < 16 → x ≡ getD (B .blocks .items) n x → x .entries .items ≡ body-at (state-of B) n .entries
-entries-read B n x h read = sym (ap (λ (b : Body). b .entries) (body-read (B .blocks .items) n x (long B n h) read))
+pub block-read : (B : Blocks) (n : ℕ) (x : Block) → n < 16 → x ≡ getD (B .blocks .items) n x → body-of x ≡ body-at (state-of B) n
+block-read B n x h read = sym (body-read (B .blocks .items) n x (long B n h) read)
 
-pub exit-read : (B : Blocks) (n : ℕ) (x : Block) → n < 16 → x ≡ getD (B .blocks .items) n x → Some (x .exit) ≡ mapped (λ (b : Body). b .exit) (block-at (state-of B) n)
-exit-read B n x h read =
-    sym (ap (λ t. mapped (λ (b : Body). b .exit) (cond t (Some (body-at (state-of B) n)) None)) (lt-ltb n 16 h)
-    ∙ ap (λ (b : Body). Some (b .exit)) (body-read (B .blocks .items) n x (long B n h) read))
-
-pub well-placed-read : (B : Blocks) (n : ℕ) (x : Block) → n < 16 → x ≡ getD (B .blocks .items) n x → Well-placed (slots-of (B .description .slots)) (x .entries .items)
-well-placed-read B n x h read =
+pub well-placed : (B : Blocks) (n : ℕ) (x : Block) → body-of x ≡ body-at (state-of B) n → Well-placed (slots-of (B .description .slots)) (x .entries .items)
+well-placed B n x e =
     let P : Body → Type 0 = λ b. All-fit (slots-of (B .description .slots)) (b .entries) in
-    record {
-      few = omega (arith, x .few, x .entries .ok .0);
-      apart = x .apart;
-      fit = subst P (body-read (B .blocks .items) n x (long B n h) read) (B .fit n);
-    }
+    record { few = omega (arith, x .few, x .entries .ok .0); apart = x .apart; fit = subst P (sym e) (B .fit n) }

@@ -1,6 +1,6 @@
 -- The operations of a block, and where they are placed. Assumes nothing.
 use mathlib.Core.Path.{_≡_, refl}
-use mathlib.Core.Bool.{Bool, true, false, cond, _&&_, _||_}
+use mathlib.Core.Bool.{Bool, true, false, cond, not, _&&_, _||_}
 use mathlib.Core.List.{List, [], _∷_, map}
 use Prim.Native.Nat.{ℕ, zero, suc, _+_, _≤_}
 use lib.Dec.{eqb, ltb}
@@ -76,6 +76,11 @@ any-at p (q ∷ qs) = clash q (Some p) || any-at p qs
 -- whether an operation other than i is at p
 abbrev pub occupied : List Entry → ℕ → Position → Bool
 occupied es i p = any-at p (set (map position-of es) i None)
+
+-- whether operation i may be there, or nowhere
+abbrev pub free : List Entry → ℕ → Option Position → Bool
+free es i None = true
+free es i (Some p) = not (occupied es i p)
 
 abbrev pub entry-class : Entry → Class
 entry-class e = class-of (e .operation .form)

@@ -23,13 +23,16 @@ use Rattle.blocks.specs.declared.description.Bounds.{Bounds}
 use Rattle.blocks.specs.declared.description.Description.{Description}
 use Rattle.blocks.specs.Steps.{Outcome}
 
-abbrev pub slot-for : (i m c b : Bool) → (i || m || c) ≡ b → Option Slot
+abbrev pub takes-some : Bool → Bool → Bool → Bool
+takes-some i m c = i || m || c
+
+abbrev pub slot-for : (i m c b : Bool) → takes-some i m c ≡ b → Option Slot
 slot-for i m c true e = Some (record { integer = i; memory = m; compare = c; some = e })
 slot-for i m c false e = None
 
 -- the slot that takes these classes: there is none that takes no class
 abbrev pub slot-taking : Bool → Bool → Bool → Option Slot
-slot-taking i m c = slot-for i m c (i || m || c) refl
+slot-taking i m c = slot-for i m c (takes-some i m c) refl
 
 abbrev pub serves : Slot → Class → Bool
 serves s class.Integer = s .integer
@@ -41,12 +44,20 @@ abbrev pub slots-of : Slots → List Slot
 slots-of s = take (s .count) (s .slots)
 
 -- one more slot, up to 8
-abbrev pub add-slot : List Slot → Slot → Outcome (Unit {0}) (List Slot)
-add-slot ss s = cond (ltb (length ss) 8) (Ok (tt, ss ++ s ∷ [])) (Err NoSuch)
+abbrev pub add-slot : Slots → Slot → Outcome (Unit {0}) (List Slot)
+add-slot s x = cond (ltb (s .count) 8) (Ok (tt, slots-of s ++ x ∷ [])) (Err NoSuch)
+
+-- slot i, where there is one
+abbrev pub slot-at : List Slot → ℕ → Option Slot
+slot-at ss i = getD (map (λ s. Some s) ss) i None
+
+abbrev pub serves-there : Class → Option Slot → Bool
+serves-there c None = false
+serves-there c (Some s) = serves s c
 
 -- whether there is a slot i, and it takes the class
 abbrev pub takes-class : List Slot → ℕ → Class → Bool
-takes-class ss i c = getD (map (λ s. serves s c) ss) i false
+takes-class ss i c = serves-there c (slot-at ss i)
 
 -- bounds in order, from 1 to 31
 abbrev pub in-order : ℕ → ℕ → Bool

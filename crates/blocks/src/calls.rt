@@ -1,24 +1,18 @@
 // The calls on the blocks.
 ghost use mathlib.Core.Path.{_≡_};
-ghost use Prim.Native.Nat.{_<_, _≤_};
 ghost use lib.ListN.{replicate};
 ghost use Rattle.std.specs.Of.Vec.{vec-items};
-ghost use Rattle.std.specs.Options.{mapped, Cases as BySome};
 ghost use Rattle.std.specs.Vec.{made};
 ghost use Rattle.blocks.specs.Steps.{Did};
 ghost use Rattle.blocks.specs.Model.{empty};
-ghost use Rattle.blocks.specs.Calls.{fresh, body-at, block-at, add-call, place-call, lift-call, exit-call};
-ghost use Rattle.blocks.specs.Entries.{Well-placed};
-ghost use Rattle.blocks.specs.Machine.{slots-of};
+ghost use Rattle.blocks.specs.Calls.{fresh, add-call, place-call, lift-call, exit-call};
 ghost use Rattle.blocks.specs.View.{bodies-of};
 ghost use Rattle.blocks.specs.Whole.{state-of};
 use crate::block::Block;
 use crate::blocks::Blocks;
 use crate::description::Description;
-use crate::exit::Exit;
 use crate::exit::RawExit;
 use crate::exits::BLOCKS;
-use crate::position::Entry;
 use operations::RawOperation;
 use operations::Refusal;
 use std::alloc::AllocError;
@@ -89,31 +83,5 @@ impl Blocks {
         };
         self.blocks[block as usize].leave_by(exit);
         Ok(())
-    }
-
-    pub fn description(&self) -> Description
-        ensures { λ r. ⌜ r ≡ state-of (now (self .entry)) .description ⌝ }
-    {
-        self.description
-    }
-
-    // The operations of the block, in written order.
-    pub fn entries(&self, block: u8) -> Option<&[Entry]>
-        ensures { λ r. ⌜ BySome r (16 ≤ block) (λ es. (block < 16) × (now es ≡ body-at (state-of (now (self .entry))) block .entries) × Well-placed (slots-of (state-of (now (self .entry)) .description .slots)) (now es)) ⌝ }
-    {
-        if block >= BLOCKS {
-            return None;
-        }
-        Some(self.blocks[block as usize].entries.as_slice())
-    }
-
-    // Where the block leads when it ends.
-    pub fn exit_of(&self, block: u8) -> Option<Exit>
-        ensures { λ r. ⌜ r ≡ mapped (λ b. b .exit) (block-at (state-of (now (self .entry))) block) ⌝ }
-    {
-        if block >= BLOCKS {
-            return None;
-        }
-        Some(self.blocks[block as usize].exit)
     }
 }

@@ -2,7 +2,7 @@
 ghost use mathlib.Core.Path.{_≡_};
 ghost use mathlib.Core.List.{[], _∷_};
 ghost use Rattle.blocks.specs.Steps.{Did};
-ghost use Rattle.blocks.specs.Machine.{slot-taking, serves, slots-of, add-slot, takes-class, bounded, bounds-of};
+ghost use Rattle.blocks.specs.Machine.{takes-some, slot-taking, serves, slots-of, add-slot, slot-at, takes-class, bounded, bounds-of};
 use crate::description::Bounds;
 use crate::description::Description;
 use crate::description::Slot;
@@ -18,12 +18,18 @@ const LONGEST: u8 = 31;
 // How many slots there may be.
 const SLOTS: u8 = 8;
 
+fn any(integer: bool, memory: bool, compare: bool) -> bool
+    ensures { λ r. ⌜ r ≡ takes-some integer memory compare ⌝ }
+{
+    integer || memory || compare
+}
+
 impl Slot {
     // A slot that takes these classes, if there is one among them.
     pub fn new(integer: bool, memory: bool, compare: bool) -> Option<Slot>
         ensures { λ r. ⌜ r ≡ slot-taking integer memory compare ⌝ }
     {
-        if integer || memory || compare {
+        if any(integer, memory, compare) {
             Some(Slot {
                 integer,
                 memory,
@@ -57,7 +63,7 @@ impl Slots {
 
     // Adds a slot behind the others. Refused where there are 8.
     pub fn add(&mut self, slot: Slot) -> Result<(), Refusal>
-        ensures { λ r. ⌜ Did (slots-of (now (self .entry))) (slots-of (now (self .exit))) r (add-slot (slots-of (now (self .entry))) slot) ⌝ }
+        ensures { λ r. ⌜ Did (slots-of (now (self .entry))) (slots-of (now (self .exit))) r (add-slot (now (self .entry)) slot) ⌝ }
     {
         if self.count >= SLOTS {
             return Err(Refusal::NoSuch);
@@ -65,6 +71,17 @@ impl Slots {
         self.slots[self.count as usize] = slot;
         self.count += 1;
         Ok(())
+    }
+
+    // The slot of that number, where there is one.
+    pub(crate) fn get(&self, slot: u8) -> Option<Slot>
+        ensures { λ r. ⌜ r ≡ slot-at (slots-of (now (self .entry))) slot ⌝ }
+    {
+        if slot < self.count {
+            Some(self.slots[slot as usize])
+        } else {
+            None
+        }
     }
 }
 
@@ -85,10 +102,9 @@ impl Description {
     pub fn takes(&self, slot: u8, class: Class) -> bool
         ensures { λ r. ⌜ r ≡ takes-class (slots-of (now (self .entry) .slots)) slot class ⌝ }
     {
-        if slot < self.slots.count {
-            self.slots.slots[slot as usize].serves(class)
-        } else {
-            false
+        match self.slots.get(slot) {
+            Some(slot) => slot.serves(class),
+            None => false,
         }
     }
 

@@ -5,7 +5,7 @@ ghost use Prim.Native.Nat.{_≤_};
 ghost use lib.ListN.{length};
 
 // The classes that a slot takes: one or more.
-#[derive(Clone, Copy, Debug)]
+#[derive(Clone, Copy)]
 pub struct Slot {
     pub integer: bool,
     pub memory: bool,
@@ -14,7 +14,7 @@ pub struct Slot {
 }
 
 // The first `count` of `slots` are those of the machine, 1 to 8.
-#[derive(Clone, Copy, Debug)]
+#[derive(Clone, Copy)]
 pub struct Slots {
     pub slots: [Slot; 8],
     pub count: u8,
@@ -24,7 +24,7 @@ pub struct Slots {
 }
 
 // How many cycles a result takes, at the least and at the most.
-#[derive(Clone, Copy, Debug)]
+#[derive(Clone, Copy)]
 pub struct Bounds {
     pub shortest: u8,
     pub longest: u8,
@@ -33,7 +33,7 @@ pub struct Bounds {
     ghost few: { longest ≤ 31 },
 }
 
-#[derive(Clone, Copy, Debug)]
+#[derive(Clone, Copy)]
 pub struct Description {
     pub slots: Slots,
     pub integer: Bounds,

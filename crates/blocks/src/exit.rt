@@ -1,18 +1,16 @@
 // Where a block may lead when it ends.
 ghost use Prim.Native.Nat.{_<_};
 use registers::Predicate;
-use registers::PredicateDebug;
 use registers::PredicateName;
-use registers::PredicateNameDebug;
 
 // The number of a block, 0 to 15.
-#[derive(Clone, Copy, Debug)]
+#[derive(Clone, Copy)]
 pub struct BlockNumber {
     pub number: u8,
     ghost below: { number < 16 },
 }
 
-#[derive(Clone, Copy, Debug)]
+#[derive(Clone, Copy)]
 pub enum Exit {
     Halt,
     Next,
@@ -25,7 +23,7 @@ pub enum Exit {
 }
 
 // An exit as it is handed in, before anything is known of it.
-#[derive(Clone, Copy, Debug)]
+#[derive(Clone, Copy)]
 pub enum RawExit {
     Halt,
     Next,

@@ -13,7 +13,7 @@ const LAST: u8 = 15;
 
 impl BlockNumber {
     // The number, where there is such a block.
-    pub fn new(number: u8) -> Option<BlockNumber>
+    pub(crate) fn new(number: u8) -> Option<BlockNumber>
         ensures { λ r. ⌜ r ≡ block-numbered number ⌝ }
     {
         if number < BLOCKS {

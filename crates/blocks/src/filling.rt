@@ -1,18 +1,22 @@
 // What is done to one block.
 ghost use mathlib.Core.Path.{_≡_};
-ghost use Prim.Native.Nat.{ℕ};
+ghost use Prim.Native.Nat.{_<_};
+ghost use lib.ListN.{length};
+ghost use Rattle.std.specs.Of.Vec.{vec-items, vec-len};
 ghost use Rattle.std.specs.Vec.{made};
+ghost use mathlib.Core.Bool.{true};
 ghost use Rattle.std.specs.declared.option.Option.the-variants.{Some};
 ghost use Rattle.blocks.specs.Steps.{Did};
 ghost use Rattle.blocks.specs.Machine.{slots-of};
-ghost use Rattle.blocks.specs.Entries.{clash, occupied};
-ghost use Rattle.blocks.specs.Model.{empty, with-exit, topmost, add-step, place-step, lift-step};
+ghost use Rattle.blocks.specs.Entries.{position-at, placed, clash, occupied, free, class-at, put};
+ghost use Rattle.blocks.specs.Model.{empty, with-entries, with-exit, topmost, add-step, place-step, lift-step};
 ghost use Rattle.blocks.specs.View.{body-of};
 use crate::block::Block;
 use crate::description::Description;
 use crate::exit::Exit;
 use crate::position::Entry;
 use crate::position::Position;
+use operations::Class;
 use operations::RawOperation;
 use operations::Refusal;
 use std::alloc::AllocError;
@@ -23,6 +27,31 @@ const OPERATIONS: usize = 64;
 
 // How many cycles a block may take.
 const CYCLES: u16 = 1024;
+
+impl Position {
+    fn at(cycle: u16, slot: u8) -> Position
+        requires { ⌜ cycle < 1024 ⌝ ∗ ⌜ slot < 8 ⌝ }
+        ensures { λ r. ⌜ Some r ≡ position-at cycle slot ⌝ }
+    {
+        Position { cycle, slot }
+    }
+}
+
+// Where operation `i` is placed.
+fn position_at(entries: &[Entry], i: usize) -> Option<Position>
+    requires { ⌜ i < length (now entries) ⌝ }
+    ensures { λ r. ⌜ r ≡ placed (now (entries .entry)) i ⌝ }
+{
+    entries[i].position
+}
+
+// The class of operation `i`.
+fn class_at(entries: &[Entry], i: usize) -> Class
+    requires { ⌜ i < length (now entries) ⌝ }
+    ensures { λ r. ⌜ r ≡ class-at (now (entries .entry)) i ⌝ }
+{
+    entries[i].operation.class()
+}
 
 // Whether the entry is placed there.
 fn is_at(entry: &Entry, position: Position) -> bool
@@ -89,6 +118,14 @@ impl Block {
         }
     }
 
+    // Puts operation `i` to a position that is free, or to none.
+    fn put(&mut self, i: usize, position: Option<Position>)
+        requires { ⌜ i < vec-len (now self .entries) ⌝ ∗ ⌜ free (vec-items (now self .entries)) i position ≡ true ⌝ }
+        ensures { λ _. ⌜ body-of (now (self .exit)) ≡ with-entries (body-of (now (self .entry))) (put (vec-items (now (self .entry) .entries)) i position) ⌝ }
+    {
+        self.entries[i].position = position;
+    }
+
     // Places the operation, or moves it.
     pub(crate) fn place(
         &mut self,
@@ -106,15 +143,14 @@ impl Block {
         if cycle >= CYCLES {
             return Err(Refusal::BeyondLimit);
         }
-        let class = self.entries[i].operation.class();
-        if !description.takes(slot, class) {
+        if !description.takes(slot, class_at(self.entries.as_slice(), i)) {
             return Err(Refusal::ClassNotTaken);
         }
-        let position = Position { cycle, slot };
+        let position = Position::at(cycle, slot);
         if occupied(self.entries.as_slice(), i, position) {
             return Err(Refusal::Occupied);
         }
-        self.entries[i].position = Some(position);
+        self.put(i, Some(position));
         Ok(())
     }
 
@@ -126,10 +162,10 @@ impl Block {
         if i >= self.entries.len() {
             return Err(Refusal::NoSuch);
         }
-        if self.entries[i].position.is_none() {
+        let Some(_) = position_at(self.entries.as_slice(), i) else {
             return Err(Refusal::Unplaced(operation));
-        }
-        self.entries[i].position = None;
+        };
+        self.put(i, None);
         Ok(())
     }
 

@@ -8,6 +8,7 @@ mod exit;
 mod exits;
 mod filling;
 mod position;
+mod reading;
 #[cfg(test)]
 mod tests;
 

@@ -3,7 +3,7 @@ ghost use Prim.Native.Nat.{_<_};
 use operations::Operation;
 
 // A cycle of a block, and a slot in it.
-#[derive(Clone, Copy, Debug)]
+#[derive(Clone, Copy)]
 pub struct Position {
     pub cycle: u16,
     pub slot: u8,

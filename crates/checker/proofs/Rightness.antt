@@ -70,17 +70,18 @@ module _ (d : Description) (es : List Entry) (ps : List Placed) (long : length p
     pub right-violated : (last : ℕ) → last + 1 ≡ length (slots-of (d .slots)) → (v : Violation) → Found last (take n ps) v → Right d es (Violated v)
     right-violated last slots v f =
         let in-slots : (i : ℕ) → i < length es → schedule-of es .slot i ≤ last =
-          λ i h. let k = in-machine (slots-of (d .slots)) es i (well .fit i) (seen .placed i h) in omega arith in
+        λ i h. let k = in-machine (slots-of (d .slots)) es i (well .fit i) (seen .placed i h) in omega arith in
         let g : Shows (program-of d es) (schedule-of es) (last + 1) v = shows _ _ sound (take n ps) as-seen last in-slots v f in
         let P : ℕ → Type 0 = λ m. Shows (program-of d es) (schedule-of es) m v in
         let h : Shows (program-of d es) (schedule-of es) (length (slots-of (d .slots))) v = subst P slots g in
         record {
           kept = (
             λ e. violated-kept v e,
-            λ same. absurd (h .broken (kept-holds (v .dependence) _ _ (v .place) (v .first) (v .second) (kept-is-always-same (program-of d es) (schedule-of es) sound .1 same) (h .depends))));
+            λ same. absurd (h .broken (kept-holds (v .dependence) _ _ (v .place) (v .first) (v .second) (kept-is-always-same (program-of d es) (schedule-of es) sound .1 same) (h .depends))),
+          );
           shows = λ w e. let Q : Violation → Type 0 = λ u. Shows (program-of d es) (schedule-of es) (length (slots-of (d .slots))) u in
-            let same : v ≡ w = cc in
-            subst Q same h;
+              let same : v ≡ w = cc in
+              subst Q same h;
         }
 
 pub judged : (d : Description) (es : List Entry) (v : Verdict) → unplaced-lowest es ≡ None → Right d es v → Judged d es (Ok v)
