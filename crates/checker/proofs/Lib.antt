@@ -1,7 +1,7 @@
-mod Parts
-mod Pairwise
-mod Linked
-mod Shown
-mod Sight
-mod Soundness
-mod Rightness
+pub mod Parts
+pub mod Pairwise
+pub mod Linked
+pub mod Shown
+pub mod Sight
+pub mod Soundness
+pub mod Rightness

@@ -11,7 +11,6 @@ use Rattle.std.specs.Vec.{listOf}
 use Rattle.std.specs.Options.{isSome}
 use Rattle.std.specs.declared.option.Option.{Option}
 use Rattle.std.specs.declared.option.Option.the-variants.{Some, None}
-use Rattle.std.proofs.shelf.Lists.{length-map}
 use Rattle.std.proofs.shelf.Tests.{eq-eqb, and-from}
 use Rattle.registers.specs.declared.register.General as general
 use Rattle.registers.specs.declared.register.General.{General}
@@ -30,7 +29,7 @@ use Rattle.blocks.specs.declared.description.Description.{Description}
 use Rattle.blocks.specs.declared.description.Slot.{Slot}
 use Rattle.blocks.specs.declared.position.Entry.{Entry}
 use Rattle.blocks.specs.declared.position.Position.{Position}
-use Rattle.blocks.specs.Machine.{takes-class, serves, slots-of}
+use Rattle.blocks.specs.Machine.{takes-class, slots-of}
 use Rattle.blocks.specs.Entries.{position-of, placed, cycle-in, slot-in, cycle-of, slot-of, clash, Apart, fits-position, fits-slot, Well-placed}
 use Rattle.histories.specs.Schedule.{Program, Schedule, Sound}
 use Rattle.checker.specs.declared.placed.Placed.{Placed}
@@ -80,10 +79,10 @@ clash-from None q a b c s = no-test a
 clash-from (Some p) None a b c s = no-test b
 clash-from (Some p) (Some q) a b c s = and-from _ _ (eq-eqb _ _ c) (eq-eqb _ _ s)
 
-within-true : (bs : List Bool) (i : ℕ) → getD bs i false ≡ true → i < length bs
-within-true [] i t = no-test t
-within-true (b ∷ bs) zero t = omega arith
-within-true (b ∷ bs) (suc i) t = let k = within-true bs i t in omega arith
+slot-there : (slots : List Slot) (i : ℕ) (c : Class) → takes-class slots i c ≡ true → i < length slots
+slot-there [] i c t = no-test t
+slot-there (s ∷ slots) zero c t = omega arith
+slot-there (s ∷ slots) (suc i) c t = let k = slot-there slots i c t in omega arith
 
 -- a placed operation stands in one of the machine's slots
 pub in-machine : (slots : List Slot) (es : List Entry) (i : ℕ) → getD (map (fits-slot slots) es) i true ≡ true → isSome (placed es i) ≡ true → slot-of es i < length slots
@@ -92,7 +91,7 @@ in-machine slots (e ∷ es) zero f t = by (e .position) _ f t
   where
     by : (o : Option Position) (c : Class) → fits-position slots c o ≡ true → isSome o ≡ true → slot-in o < length slots
     by None c f t = no-test t
-    by (Some p) c f t = let k = within-true (map (λ s. serves s c) slots) (p .slot) f in omega (arith, length-map slots (λ s. serves s c))
+    by (Some p) c f t = slot-there slots (p .slot) c f
 in-machine slots (e ∷ es) (suc i) f t = in-machine slots es i f t
 
 pub sound-of : (d : Description) (es : List Entry) (ps : List Placed) → 0 < length ps → Well-placed (slots-of (d .slots)) es → Seen-to d es (length es) ps → Sound (program-of d es) (schedule-of es)
