@@ -5,6 +5,8 @@ mod pair;
 mod pairs;
 mod placed;
 mod seeing;
+#[cfg(test)]
+mod tests;
 mod verdict;
 
 pub use checking::check;
