@@ -1,4 +1,6 @@
 // Reads a machine's description and a program, and says of each block whether its schedule keeps its dependences.
+#![tactic(auto)]
+
 mod input;
 
 use anyhow::anyhow;

@@ -1,4 +1,6 @@
 // The verdicts of a program as numbers, for a compiler in C or C++.
+#![tactic(auto)]
+
 mod entry;
 mod numbers;
 mod rows;

@@ -1,4 +1,6 @@
 // The machine's description, and sixteen blocks of operations, each placed at a cycle and a slot or not yet placed.
+#![tactic(auto)]
+
 mod block;
 mod blocks;
 mod calls;

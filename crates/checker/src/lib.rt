@@ -1,4 +1,6 @@
 // Which schedules keep the dependences of a block.
+#![tactic(auto)]
+
 mod checking;
 mod dependence;
 mod pair;

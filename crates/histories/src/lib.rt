@@ -1,4 +1,6 @@
 // The theory of the histories of places. Each function's contract is a theorem; the functions compute nothing.
+#![tactic(auto)]
+
 mod examples;
 mod orders;
 mod schedules;

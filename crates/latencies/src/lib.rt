@@ -1,4 +1,6 @@
 // Sources of latencies: how many cycles a result takes, within the bounds that the machine's description gives.
+#![tactic(auto)]
+
 mod longest;
 mod source;
 mod stepped;

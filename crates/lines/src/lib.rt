@@ -1,4 +1,6 @@
 // One line of a text: what it is written as, and reading it.
+#![tactic(auto)]
+
 mod classes;
 mod description;
 mod expect;

@@ -1,4 +1,6 @@
 // Memories by their meaning: which word addresses there are, which may be stored to, and the word at each.
+#![tactic(auto)]
+
 mod fence;
 mod flat;
 mod lent;

@@ -1,4 +1,6 @@
 // The opcodes of the core, its conditions and its actions, and what each of them gives.
+#![tactic(auto)]
+
 mod compare;
 mod integer;
 mod shift;

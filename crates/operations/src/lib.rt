@@ -1,4 +1,6 @@
 // Operations: what an operation reads, writes and does, and why a call is refused.
+#![tactic(auto)]
+
 mod access;
 mod effect;
 mod operation;

@@ -1,4 +1,6 @@
 // Blocks printed as lines of a program.
+#![tactic(auto)]
+
 mod literals;
 mod sets;
 mod shown;

@@ -1,4 +1,6 @@
 // Registers, the names that they are given from outside, places, and writes to registers.
+#![tactic(auto)]
+
 mod names;
 mod number;
 mod register;

@@ -1,4 +1,6 @@
 // The theory of runs. Each function's contract is a theorem; the functions compute nothing.
+#![tactic(auto)]
+
 mod assumptions;
 mod cells;
 mod examples;

@@ -1,4 +1,6 @@
 // The two texts: the machine's description and a program of blocks.
+#![tactic(auto)]
+
 mod cutting;
 mod describing;
 mod fault;

@@ -1,4 +1,6 @@
 // What check says of each block that has operations.
+#![tactic(auto)]
+
 mod listing;
 mod text;
 mod verdict;

@@ -1,4 +1,6 @@
 // Works examples in written order, and prints each operation with what it wrote.
+#![tactic(auto)]
+
 mod examples;
 mod state;
 mod table;
