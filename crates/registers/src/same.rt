@@ -1,5 +1,5 @@
 // When two registers, or two places, are one.
-ghost use Rattle.std.specs.Prelude.{◌≡◌, nat_eq};
+ghost use Rattle.std.specs.Prelude.{◌≡◌, ◌==◌, nat_eq};
 ghost use Rattle.registers.specs.Registers.{same_general, same_predicate, same_register, same_place, Tells};
 ghost use Rattle.std.specs.Ordering.{on};
 ghost use Rattle.std.specs.Cmp.Rules.{comparing};
@@ -14,7 +14,10 @@ impl PartialEq for RegisterNumber {
 
     ghost laws = { Keys.partial_equiv_from_equiv (first_of (Prim.search (comparing, rules), Prim.grind (arith, Self.row.coded.inj))) };
 
-    fn eq(&self, other: &RegisterNumber) -> bool {
+    fn eq(&self, other: &RegisterNumber) -> bool
+        ensures test { result ≡ (self.now.number == other.now.number) }
+        ensures tells { Tells (self.now.number == other.now.number) result (self.now ≡ other.now) }
+    {
         self.number == other.number
     }
 }
@@ -24,11 +27,14 @@ impl Eq for RegisterNumber {
 }
 
 impl PartialEq for General {
-    ghost equals = { λ x y r. Tells (same_general x y) r (x ≡ y) };
+    ghost eq = { same_general };
 
     ghost laws = { Keys.partial_equiv_from_equiv (Prim.search (comparing, rules)) };
 
-    fn eq(&self, other: &General) -> bool {
+    fn eq(&self, other: &General) -> bool
+        ensures test { result ≡ same_general self.now other.now }
+        ensures tells { Tells (same_general self.now other.now) result (self.now ≡ other.now) }
+    {
         match *self {
             General::Static(m) => match *other {
                 General::Static(n) => m == n,
@@ -47,11 +53,14 @@ impl Eq for General {
 }
 
 impl PartialEq for Predicate {
-    ghost equals = { λ x y r. Tells (same_predicate x y) r (x ≡ y) };
+    ghost eq = { same_predicate };
 
     ghost laws = { Keys.partial_equiv_from_equiv (Prim.search (comparing, rules)) };
 
-    fn eq(&self, other: &Predicate) -> bool {
+    fn eq(&self, other: &Predicate) -> bool
+        ensures test { result ≡ same_predicate self.now other.now }
+        ensures tells { Tells (same_predicate self.now other.now) result (self.now ≡ other.now) }
+    {
         match *self {
             Predicate::Static(m) => match *other {
                 Predicate::Static(n) => m == n,
@@ -70,11 +79,14 @@ impl Eq for Predicate {
 }
 
 impl PartialEq for Register {
-    ghost equals = { λ x y r. Tells (same_register x y) r (x ≡ y) };
+    ghost eq = { same_register };
 
     ghost laws = { Keys.partial_equiv_from_equiv (Prim.search (comparing, rules)) };
 
-    fn eq(&self, other: &Register) -> bool {
+    fn eq(&self, other: &Register) -> bool
+        ensures test { result ≡ same_register self.now other.now }
+        ensures tells { Tells (same_register self.now other.now) result (self.now ≡ other.now) }
+    {
         match *self {
             Register::General(g) => match *other {
                 Register::General(h) => g == h,
@@ -93,11 +105,14 @@ impl Eq for Register {
 }
 
 impl PartialEq for Place {
-    ghost equals = { λ x y r. Tells (same_place x y) r (x ≡ y) };
+    ghost eq = { same_place };
 
     ghost laws = { Keys.partial_equiv_from_equiv (Prim.search (comparing, rules)) };
 
-    fn eq(&self, other: &Place) -> bool {
+    fn eq(&self, other: &Place) -> bool
+        ensures test { result ≡ same_place self.now other.now }
+        ensures tells { Tells (same_place self.now other.now) result (self.now ≡ other.now) }
+    {
         match *self {
             Place::Register(x) => match *other {
                 Place::Register(y) => x == y,
