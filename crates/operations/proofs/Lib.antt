@@ -1,2 +1,3 @@
 mod Apart
 pub mod Exact
+mod Idle

@@ -29,7 +29,7 @@ effect_of (Load to _) g a b = cond g (effect.Load to a) nothing
 effect_of (Store _ _) g a b = cond g (effect.Store a b) nothing
 
 -- with guard 0: only UN and UC act, and both write 0
-abbrev unconditional : Action → Bool
+abbrev pub unconditional : Action → Bool
 unconditional Un = true
 unconditional Uc = true
 unconditional Cn = false
@@ -39,7 +39,7 @@ unconditional Oc = false
 unconditional An = false
 unconditional Ac = false
 
-abbrev cleared : Target → Option Write
+abbrev pub cleared : Target → Option Write
 cleared t = cond (unconditional t.action) (bit_write t.to false) None
 
 abbrev pub unguarded : Form → Effect
