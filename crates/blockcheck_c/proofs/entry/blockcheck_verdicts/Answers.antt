@@ -9,11 +9,11 @@ use Rattle.blockcheck_c.proofs.entry.blockcheck_verdicts.Goals as goal
 pub returns-in-Err : goal.returns-in-Err
 returns-in-Err c = not_loaded _ _ c.args.room.now c.load.result.loaded _ c.in-Err.fault _ c.load.ensures c.in-Err.is c.number.ensures
 
-pub returns-in-default : goal.returns-in-default
-returns-in-default c = wanting _ _ c.args.room.now c.load.result.loaded _ c.in-Ok.blocks c.load.ensures c.in-Ok.is
+pub returns-in_default : goal.returns-in_default
+returns-in_default c = wanting _ _ c.args.room.now c.load.result.loaded _ c.in-Ok.blocks c.load.ensures c.in-Ok.is
 
-pub returns-in-default-numbers : goal.returns-in-default-numbers
-returns-in-default-numbers c = wanting _ _ c.args.room.now c.load.result.loaded _ c.in-Ok.blocks c.load.ensures c.in-Ok.is
+pub returns-in_default-numbers : goal.returns-in_default-numbers
+returns-in_default-numbers c = wanting _ _ c.args.room.now c.load.result.loaded _ c.in-Ok.blocks c.load.ensures c.in-Ok.is
 
 pub returns-then-room-len : goal.returns-then-room-len
 returns-then-room-len c =

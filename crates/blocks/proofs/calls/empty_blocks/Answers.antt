@@ -5,4 +5,4 @@ use Rattle.blocks.proofs.calls.empty_blocks.Goals as goal
 
 pub loop-i-preserved : goal.loop-i-preserved
 loop-i-preserved c =
-    ap bodies_of c.in-ok-push.ensures.items ∙ one_more _ _ _ c.loop-i.invariant c.in-ok-new.ensures
+    ap bodies_of c.in_ok-push.ensures.items ∙ one_more _ _ _ c.loop-i.invariant c.in_ok-new.ensures

@@ -4,4 +4,4 @@ use Rattle.blocks.proofs.Positions.{others}
 use Rattle.blocks.proofs.filling.occupied.Given as goal
 
 abbrev pub invariant-loop-k : goal.invariant-loop-k
-invariant-loop-k l = any_at l.position (drop l.k (others l.entries l.own_val)) ≡ occupied l.entries l.own_val l.position
+invariant-loop-k l = any_at l.position (drop l.k (others l.entries l.own)) ≡ occupied l.entries l.own l.position

@@ -3,10 +3,10 @@ use Rattle.std.proofs.lemmas.List.{length-set}
 use Rattle.checker.proofs.Sight.{placed_here, seen_more, lowest_is, none_unplaced}
 use Rattle.checker.proofs.seeing.all_placed.Goals as goal
 
-pub returns-in-default : goal.returns-in-default
-returns-in-default c =
+pub returns-in_default : goal.returns-in_default
+returns-in_default c =
     lowest_is _ c.loop-i.i (omega arith) c.loop-i.invariant.1.placed
-    (placed_here _ c.loop-i.i c.index-entries-i.result (omega arith) c.index-entries-i.is ∙ c.in-default.ensures)
+    (placed_here _ c.loop-i.i c.index-entries-i.result (omega arith) c.index-entries-i.is ∙ c.in_default.ensures)
 
 pub loop-i-preserved : goal.loop-i-preserved
 loop-i-preserved c = (

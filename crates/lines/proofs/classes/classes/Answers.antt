@@ -5,10 +5,10 @@ use Rattle.lines.proofs.Beginnings.{worded, worded_sound, nothing, the_same}
 use Rattle.lines.proofs.ClassTexts.{sets, each_set, some_class}
 use Rattle.lines.proofs.classes.classes.Goals as goal
 
-pub returns-in-default : goal.returns-in-default
-returns-in-default c = record {
+pub returns-in_default : goal.returns-in_default
+returns-in_default c = record {
   sound = tt;
-  complete = λ k h e. absurd (nothing (worded classes_text sets c.args.text.now) k [] c.in-default.ensures (each_set _ k h e));
+  complete = λ k h e. absurd (nothing (worded classes_text sets c.args.text.now) k [] c.in_default.ensures (each_set _ k h e));
 }
 
 pub returns-then-is-empty : goal.returns-then-is-empty

@@ -5,8 +5,8 @@ use Rattle.lines.specs.Said.{Says}
 use Rattle.lines.proofs.Described.{line_none, line_slot, line_bounds, line_no_bounds}
 use Rattle.lines.proofs.description.said.Goals as goal
 
-pub returns-in-default : goal.returns-in-default
-returns-in-default c = line_none _ _ c.in-default.ensures
+pub returns-in_default : goal.returns-in_default
+returns-in_default c = line_none _ _ c.in_default.ensures
 
 pub returns-in-Slot : goal.returns-in-Slot
 returns-in-Slot c = line_slot _ _ _ (subst (λ m. Says token.Mark (left c.args.reader.now) (Some m) (left c.word.new.reader)) c.in-Slot.is c.in-Some.ensures) c.slot.ensures

@@ -4,8 +4,8 @@ use Rattle.lines.specs.Said.{name_said}
 use Rattle.lines.proofs.Sayings.{none_said, some_said, name_back}
 use Rattle.lines.proofs.expect.register.Goals as goal
 
-pub returns-in-default : goal.returns-in-default
-returns-in-default c = none_said token.Register _ _ c.in-default.ensures
+pub returns-in_default : goal.returns-in_default
+returns-in_default c = none_said token.Register _ _ c.in_default.ensures
 
 pub returns : goal.returns
 returns c = some_said token.Register _ _ name_said (λ _. refl) name_back _ _ c.name.ensures c.in-Some.ensures

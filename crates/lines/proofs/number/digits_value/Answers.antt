@@ -6,14 +6,14 @@ use Rattle.std.proofs.lemmas.Str.Parse.{digit_at}
 use Rattle.lines.proofs.Runs.{small_front, value_of_digit}
 use Rattle.lines.proofs.number.digits_value.Goals as goal
 
-pub overflow-mul-n : goal.overflow-mul-n
-overflow-mul-n c = omega (arith, small_front c.args.digits.now c.loop-b.b-index c.requires.1 (omega arith) (omega arith))
+pub overflow_mul-n : goal.overflow_mul-n
+overflow_mul-n c = omega (arith, small_front c.args.digits.now c.loop-b.b-index c.requires.1 (omega arith) (omega arith))
 
-pub overflow-sub-b : goal.overflow-sub-b
-overflow-sub-b c = (digit_at c.args.digits.now c.loop-b.b-index c.requires.1 (omega arith)).0
+pub overflow_sub-b : goal.overflow_sub-b
+overflow_sub-b c = (digit_at c.args.digits.now c.loop-b.b-index c.requires.1 (omega arith)).0
 
-pub overflow-add-n : goal.overflow-add-n
-overflow-add-n c = omega (
+pub overflow_add-n : goal.overflow_add-n
+overflow_add-n c = omega (
   arith,
   small_front c.args.digits.now c.loop-b.b-index c.requires.1 (omega arith) (omega arith),
   digit_at c.args.digits.now c.loop-b.b-index c.requires.1 (omega arith),

@@ -3,44 +3,44 @@ use Rattle.std.proofs.lemmas.List.{append_cancel_left}
 use Rattle.lines.proofs.OpcodeTexts.{compared, compare_at, as_compare}
 use Rattle.lines.proofs.opcode.compare.Goals as goal
 
-pub returns-in-default : goal.returns-in-default
-returns-in-default c = record {
+pub returns-in_default : goal.returns-in_default
+returns-in_default c = record {
   sound = tt;
-  complete = λ o rest h. let i = compared _ o rest h in c.in-default.ensures.complete i.when _ i.whole;
+  complete = λ o rest h. let i = compared _ o rest h in c.in_default.ensures.complete i.when _ i.whole;
 }
 
-pub returns-in-default-action : goal.returns-in-default-action
-returns-in-default-action c = record {
+pub returns-in_default-action : goal.returns-in_default-action
+returns-in_default-action c = record {
   sound = tt;
   complete = λ o rest h.
       let i = compared _ o rest h in
       let e = c.in-Some.ensures.complete i.when _ i.whole in
-      c.in-default-action.ensures.complete i.first _ e.1;
+      c.in_default-action.ensures.complete i.first _ e.1;
 }
 
-pub returns-in-default-after-word : goal.returns-in-default-after-word
-returns-in-default-after-word c = record {
+pub returns-in_default-after-word : goal.returns-in_default-after-word
+returns-in_default-after-word c = record {
   sound = tt;
   complete = λ o rest h.
       let i = compared _ o rest h in
       let e = c.in-Some.ensures.complete i.when _ i.whole in
       let f = c.in-Some-action.ensures.complete i.first _ e.1 in
-      c.in-default-after-word.ensures _ f.1;
+      c.in_default-after-word.ensures _ f.1;
 }
 
-pub returns-in-default-action-2 : goal.returns-in-default-action-2
-returns-in-default-action-2 c = record {
+pub returns-in_default-action-2 : goal.returns-in_default-action-2
+returns-in_default-action-2 c = record {
   sound = tt;
   complete = λ o rest h.
       let i = compared _ o rest h in
       let e = c.in-Some.ensures.complete i.when _ i.whole in
       let f = c.in-Some-action.ensures.complete i.first _ e.1 in
       let g = append_cancel_left (codes ".") _ _ (sym c.in-Some-after-word.ensures ∙ f.1) in
-      c.in-default-action-2.ensures.complete i.second _ g;
+      c.in_default-action-2.ensures.complete i.second _ g;
 }
 
-pub returns-in-default-after-word-2 : goal.returns-in-default-after-word-2
-returns-in-default-after-word-2 c = record {
+pub returns-in_default-after-word-2 : goal.returns-in_default-after-word-2
+returns-in_default-after-word-2 c = record {
   sound = tt;
   complete = λ o rest h.
       let i = compared _ o rest h in
@@ -48,7 +48,7 @@ returns-in-default-after-word-2 c = record {
       let f = c.in-Some-action.ensures.complete i.first _ e.1 in
       let g = append_cancel_left (codes ".") _ _ (sym c.in-Some-after-word.ensures ∙ f.1) in
       let k = c.in-Some-action-2.ensures.complete i.second _ g in
-      c.in-default-after-word-2.ensures i.ends.0 (k.1 ∙ i.ends.1);
+      c.in_default-after-word-2.ensures i.ends.0 (k.1 ∙ i.ends.1);
 }
 
 pub returns : goal.returns

@@ -3,10 +3,10 @@ use Rattle.lines.proofs.Sayings.{none_some}
 use Rattle.lines.proofs.Operands.{guard_read}
 use Rattle.lines.proofs.operation.guard.Goals as goal
 
-pub returns-in-default : goal.returns-in-default
-returns-in-default c = record {
+pub returns-in_default : goal.returns-in_default
+returns-in_default c = record {
   sound = tt;
-  complete = λ g short e. absurd (none_some g (guard_read _ _ _ _ (λ z. false≢true (c.if-is-done.ensures.1 z)) c.if-not-marks.ensures c.in-default.ensures g short e).0);
+  complete = λ g short e. absurd (none_some g (guard_read _ _ _ _ (λ z. false≢true (c.if-is-done.ensures.1 z)) c.if-not-marks.ensures c.in_default.ensures g short e).0);
 }
 
 pub returns-then-not-is-done : goal.returns-then-not-is-done

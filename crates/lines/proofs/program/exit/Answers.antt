@@ -5,8 +5,8 @@ use Rattle.lines.specs.Said.{Says}
 use Rattle.lines.proofs.Worded.{exit_none, exit_if}
 use Rattle.lines.proofs.program.exit.Goals as goal
 
-pub returns-in-default : goal.returns-in-default
-returns-in-default c = exit_none _ _ c.in-default.ensures
+pub returns-in_default : goal.returns-in_default
+returns-in_default c = exit_none _ _ c.in_default.ensures
 
 pub returns-in-If : goal.returns-in-If
 returns-in-If c = exit_if _ _ _ (subst (λ m. Says token.Mark (left c.args.reader.now) (Some m) (left c.word.new.reader)) c.in-If.is c.in-Some.ensures) c.branch-reader.ensures

@@ -7,8 +7,8 @@ use Rattle.lines.proofs.Sayings.{none_some}
 use Rattle.lines.proofs.Worded.{line_placed, line_block, line_no_block, line_exit, line_no_exit}
 use Rattle.lines.proofs.program.said.Goals as goal
 
-pub returns-in-default : goal.returns-in-default
-returns-in-default c = line_placed _ _ _ _ c.in-default.ensures (none_some mark.Block) (none_some mark.Exit) c.placed.ensures
+pub returns-in_default : goal.returns-in_default
+returns-in_default c = line_placed _ _ _ _ c.in_default.ensures (none_some mark.Block) (none_some mark.Exit) c.placed.ensures
 
 pub returns-in-Some-target : goal.returns-in-Some-target
 returns-in-Some-target c = line_block _ _ (subst (λ m. Says token.Mark (left c.args.reader.now) (Some m) (left c.word.new.reader)) c.in-Block.is c.in-Some.ensures) _ c.in-Some-target.ensures

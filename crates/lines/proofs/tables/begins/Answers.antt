@@ -14,7 +14,7 @@ pub loop-entry-preserved : goal.loop-entry-preserved
 loop-entry-preserved g c =
     c.loop-entry.invariant
     ∙ miss c.args.table.now c.loop-entry.entry-index c.entry-item.result c.args.text.now (omega arith)
-    (λ rest p. c.in-default.ensures rest (p ∙ ap (λ x. x.1.now ++ rest) (sym c.entry-item.is)))
+    (λ rest p. c.in_default.ensures rest (p ∙ ap (λ x. x.1.now ++ rest) (sym c.entry-item.is)))
 
 pub returns : goal.returns
 returns g c = c.loop-entry.invariant ∙ past c.args.table.now c.loop-entry.entry-index c.args.text.now (omega arith)

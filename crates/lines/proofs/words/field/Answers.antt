@@ -2,8 +2,8 @@ use Rattle.lines.proofs.Founds.{found_more}
 use Rattle.lines.proofs.Numbered.{field_number, number_field}
 use Rattle.lines.proofs.words.field.Goals as goal
 
-pub returns-in-default : goal.returns-in-default
-returns-in-default c = record { sound = tt; complete = λ n rest h. c.in-default.ensures _ h.whole }
+pub returns-in_default : goal.returns-in_default
+returns-in_default c = record { sound = tt; complete = λ n rest h. c.in_default.ensures _ h.whole }
 
 pub returns : goal.returns
 returns c = record {

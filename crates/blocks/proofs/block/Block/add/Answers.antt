@@ -12,8 +12,8 @@ returns-then-full c =
     let h : 64 ≤ length v.items = omega (arith, v.ok.0) in
     refused _ _ _ (add_full (body_of c.args.self.now) c.args.operation _ (sym c.in-Ok.ensures.value) h)
 
-pub invariant-of-self : goal.invariant-of-self
-invariant-of-self c = search (rules, apart_push)
+pub invariant_of-self : goal.invariant_of-self
+invariant_of-self c = search (rules, apart_push)
 
 pub returns-in-Err : goal.returns-in-Err
 returns-in-Err c =
@@ -27,4 +27,4 @@ returns-else-full c =
     let b = body_of c.args.self.now in
     let v = c.args.self.now.entries in
     let h : length v.items < 64 = omega (arith, v.ok.0) in
-    done _ _ _ _ _ (add_done b c.args.operation _ (sym c.in-Ok.ensures.value) h) (c.len-count.ensures ∙ v.ok.0) (ap (with_entries b) c.push-reserved.ensures.items)
+    done _ _ _ _ _ (add_done b c.args.operation _ (sym c.in-Ok.ensures.value) h) (c.len-count.ensures ∙ v.ok.0) (ap (with_entries b) c.push_reserved.ensures.items)

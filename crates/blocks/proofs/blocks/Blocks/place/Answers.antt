@@ -4,14 +4,13 @@ use Rattle.blocks.proofs.Keeps.{place_keeps}
 use Rattle.blocks.proofs.Within.{within, within_good}
 use Rattle.blocks.proofs.blocks.Blocks.place.Goals as goal
 
-pub invariant-of-self : goal.invariant-of-self
-invariant-of-self c =
-    let step = (λ (b : Body). place_step (slots_of c.args.self.now.description.slots) b c.args.operation c.args.cycle c.args.slot) in (
-      c.args.self.now.sixteen,
-      within_good c.args.self.now _ _ _ _ step c.if-block-ge-BLOCKS.false c.index-mut.ensures.value c.place.ensures (λ b g. place_keeps _ _ b g c.args.operation c.args.cycle c.args.slot),
-    )
+pub invariant_of-self : goal.invariant_of-self
+invariant_of-self c =
+    let step = (λ (b : Body). place_step (slots_of c.args.self.now.description.slots) b c.args.operation c.args.cycle c.args.slot) in
+    let good = within_good c.args.self.now _ _ _ _ step c.if-block-ge-BLOCKS.false c.index_mut.ensures.value c.place.ensures (λ b g. place_keeps _ _ b g c.args.operation c.args.cycle c.args.slot) in
+    record { sixteen = c.args.self.now.sixteen; fit = good.0; last = good.1.0 }
 
 pub returns : goal.returns
 returns c =
     let step = (λ (b : Body). place_step (slots_of c.args.self.now.description.slots) b c.args.operation c.args.cycle c.args.slot) in
-    within c.args.self.now _ _ _ _ step c.if-block-ge-BLOCKS.false c.index-mut.ensures.value c.place.ensures
+    within c.args.self.now _ _ _ _ step c.if-block-ge-BLOCKS.false c.index_mut.ensures.value c.place.ensures

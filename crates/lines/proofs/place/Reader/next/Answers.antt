@@ -4,19 +4,19 @@ use Rattle.lines.specs.Items.{left}
 use Rattle.lines.proofs.Parts.{taken_length, left_behind, token_same}
 use Rattle.lines.proofs.place.Reader.next.Goals as goal
 
-pub returns-in-default : goal.returns-in-default
-returns-in-default c = record {
+pub returns-in_default : goal.returns-in_default
+returns-in_default c = record {
   line = refl;
   handed = refl;
   sound = tt;
-  complete = λ k rest h. c.in-default.ensures.complete k rest (subst (λ t. TokenAt t k rest) (sym c.rest-text.ensures) h);
+  complete = λ k rest h. c.in_default.ensures.complete k rest (subst (λ t. TokenAt t k rest) (sym c.rest-text.ensures) h);
 }
 
-pub overflow-sub-taken : goal.overflow-sub-taken
-overflow-sub-taken c = taken_length _ (token_text c.in-Some.token) _ c.in-Some.ensures.sound.whole
+pub overflow_sub-taken : goal.overflow_sub-taken
+overflow_sub-taken c = taken_length _ (token_text c.in-Some.token) _ c.in-Some.ensures.sound.whole
 
-pub invariant-of-self : goal.invariant-of-self
-invariant-of-self c = (omega (arith, ap length c.rest-text.ensures, length-drop c.args.self.now.at c.args.self.now.line.now, c.args.self.now.within), tt)
+pub invariant_of-self : goal.invariant_of-self
+invariant_of-self c = (omega (arith, ap length c.rest-text.ensures, length-drop c.args.self.now.at c.args.self.now.line.now, c.args.self.now.within), tt)
 
 pub returns : goal.returns
 returns c =

@@ -14,8 +14,8 @@ returns-in-Some c =
     let e : index ss (length ws) b ≡ Some k = search rules in
     record {
       answer = sym (ap (λ o. stored (there o) true) e);
-      same-has = λ a. ap there (same_index ss ws k c.args.value a);
-      same-may = λ _. refl;
+      same_has = λ a. ap there (same_index ss ws k c.args.value a);
+      same_may = λ _. refl;
       words = word_after ss ws b k c.args.value e;
       lent = refl;
     }
