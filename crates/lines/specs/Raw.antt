@@ -3,7 +3,7 @@ use Rattle.std.specs.Prelude.{◌^◌, Bool, true, cond, ◌&&◌, ℤ, pos, neg
 use Rattle.operations.specs.declared.raw.Operand.{Operand}
 use Rattle.operations.specs.declared.raw.Operand.TheVariants as operand
 use Rattle.operations.specs.declared.raw.UpToTwo.{UpToTwo}
-use Rattle.operations.specs.declared.raw.UpToTwo.TheVariants as up_to_lem
+use Rattle.operations.specs.declared.raw.UpToTwo.TheVariants as up_to
 use Rattle.operations.specs.declared.raw.RawOperation.{RawOperation}
 use Rattle.lines.specs.declared.written.WrittenOperand.{WrittenOperand}
 use Rattle.lines.specs.declared.written.WrittenOperand.TheVariants.{Register, Literal}
@@ -22,8 +22,8 @@ raw_operand (Register x) = operand.Register x
 raw_operand (Literal z) = operand.Literal (cond (in_range z) z (pos 0))
 
 abbrev pub raw_sources : WrittenSources → UpToTwo Operand
-raw_sources (One a) = up_to_lem.One (raw_operand a)
-raw_sources (Two a b) = up_to_lem.Two (raw_operand a) (raw_operand b)
+raw_sources (One a) = up_to.One (raw_operand a)
+raw_sources (Two a b) = up_to.Two (raw_operand a) (raw_operand b)
 
 abbrev pub raw_operation : WrittenOperation → RawOperation
 raw_operation w = record {

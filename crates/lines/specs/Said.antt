@@ -13,7 +13,7 @@ use Rattle.lines.specs.declared.mark.Mark.{Mark}
 use Rattle.blocks.specs.declared.exit.RawExit.{RawExit}
 use Rattle.blocks.specs.declared.exit.RawExit.TheVariants as exit
 use Rattle.operations.specs.declared.raw.UpToTwo.{UpToTwo}
-use Rattle.operations.specs.declared.raw.UpToTwo.TheVariants as up_to_lem
+use Rattle.operations.specs.declared.raw.UpToTwo.TheVariants as up_to
 use Rattle.lines.specs.declared.written.WrittenOperation.{WrittenOperation}
 use Rattle.lines.specs.declared.written.ProgramLine.{ProgramLine}
 use Rattle.lines.specs.declared.written.ProgramLine.TheVariants as line
@@ -102,17 +102,17 @@ pub record ShortCall (w : WrittenOperation) : Type 0 where
 
 -- and behind the first of them
 abbrev pub behind_first : UpToTwo RegisterName → List ℕ → List ℕ
-behind_first up_to_lem.Zero rest = rest
-behind_first (up_to_lem.One d) rest = codes " = " ++ rest
-behind_first (up_to_lem.Two d e) rest = codes ", " ++ (name_text e ++ (codes " = " ++ rest))
+behind_first up_to.Zero rest = rest
+behind_first (up_to.One d) rest = codes " = " ++ rest
+behind_first (up_to.Two d e) rest = codes ", " ++ (name_text e ++ (codes " = " ++ rest))
 
 abbrev pub behind_text : WrittenOperation → List ℕ
 behind_text w = behind_first w.destinations (call_of w)
 
 abbrev pub FirstIs : RegisterName → UpToTwo RegisterName → Type 0
-FirstIs x up_to_lem.Zero = ⊥
-FirstIs x (up_to_lem.One d) = d ≡ x
-FirstIs x (up_to_lem.Two d e) = (d ≡ x) × ShortName e
+FirstIs x up_to.Zero = ⊥
+FirstIs x (up_to.One d) = d ≡ x
+FirstIs x (up_to.Two d e) = (d ≡ x) × ShortName e
 
 -- an exit behind `if`
 abbrev pub branch_text : RawExit → List ℕ

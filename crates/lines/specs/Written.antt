@@ -11,7 +11,7 @@ use Rattle.registers.specs.declared.names.RegisterName.TheVariants as name
 use Rattle.operations.specs.declared.raw.Opcode.{Opcode}
 use Rattle.operations.specs.declared.raw.Opcode.TheVariants as opcode
 use Rattle.operations.specs.declared.raw.UpToTwo.{UpToTwo}
-use Rattle.operations.specs.declared.raw.UpToTwo.TheVariants as up_to_lem
+use Rattle.operations.specs.declared.raw.UpToTwo.TheVariants as up_to
 use Rattle.lines.specs.declared.written.WrittenOperand.{WrittenOperand}
 use Rattle.lines.specs.declared.written.WrittenOperand.TheVariants.{Register, Literal}
 use Rattle.lines.specs.declared.written.WrittenSources.{WrittenSources}
@@ -49,9 +49,9 @@ sources_text (Two a b) rest = operand_text a ++ (codes ", " ++ (operand_text b +
 
 -- the destinations, and then rest
 abbrev pub destinations_text : UpToTwo RegisterName → List ℕ → List ℕ
-destinations_text up_to_lem.Zero rest = rest
-destinations_text (up_to_lem.One d) rest = name_text d ++ (codes " = " ++ rest)
-destinations_text (up_to_lem.Two d e) rest = name_text d ++ (codes ", " ++ (name_text e ++ (codes " = " ++ rest)))
+destinations_text up_to.Zero rest = rest
+destinations_text (up_to.One d) rest = name_text d ++ (codes " = " ++ rest)
+destinations_text (up_to.Two d e) rest = name_text d ++ (codes ", " ++ (name_text e ++ (codes " = " ++ rest)))
 
 -- p1, the guard that is left off
 abbrev pub always : PredicateName → Bool
@@ -95,9 +95,9 @@ ShortSources (One a) = ShortOperand a
 ShortSources (Two a b) = ShortOperand a × ShortOperand b
 
 abbrev pub ShortDestinations : UpToTwo RegisterName → Type 0
-ShortDestinations up_to_lem.Zero = Unit {0}
-ShortDestinations (up_to_lem.One d) = ShortName d
-ShortDestinations (up_to_lem.Two d e) = ShortName d × ShortName e
+ShortDestinations up_to.Zero = Unit {0}
+ShortDestinations (up_to.One d) = ShortName d
+ShortDestinations (up_to.Two d e) = ShortName d × ShortName e
 
 -- all its numbers have at most ten digits
 pub record ShortOperation (w : WrittenOperation) : Type 0 where

@@ -25,7 +25,7 @@ use Rattle.registers.specs.declared.names.RegisterName.TheVariants as name
 use Rattle.operations.specs.declared.raw.Opcode.{Opcode}
 use Rattle.operations.specs.declared.raw.Opcode.TheVariants as opcode
 use Rattle.operations.specs.declared.raw.UpToTwo.{UpToTwo}
-use Rattle.operations.specs.declared.raw.UpToTwo.TheVariants as up_to_lem
+use Rattle.operations.specs.declared.raw.UpToTwo.TheVariants as up_to
 use Rattle.blocks.specs.declared.exit.RawExit.{RawExit}
 use Rattle.blocks.specs.declared.exit.RawExit.TheVariants.{Halt, Next, Goto, If, Loop}
 use Rattle.lines.specs.declared.written.WrittenOperand.{WrittenOperand}
@@ -147,9 +147,9 @@ plain_sources (One a) rest h r = plain_append (operand_text a) rest (plain_opera
 plain_sources (Two a b) rest h r = plain_append (operand_text a) _ (plain_operand a h.0) (plain_append (operand_text b) rest (plain_operand b h.1) r)
 
 plain_destinations : (d : UpToTwo RegisterName) (rest : List ℕ) → ShortDestinations d → plain rest ≡ true → plain (destinations_text d rest) ≡ true
-plain_destinations up_to_lem.Zero rest h r = r
-plain_destinations (up_to_lem.One d) rest h r = plain_append (name_text d) _ (plain_name d h) r
-plain_destinations (up_to_lem.Two d e) rest h r = plain_append (name_text d) _ (plain_name d h.0) (plain_append (name_text e) _ (plain_name e h.1) r)
+plain_destinations up_to.Zero rest h r = r
+plain_destinations (up_to.One d) rest h r = plain_append (name_text d) _ (plain_name d h) r
+plain_destinations (up_to.Two d e) rest h r = plain_append (name_text d) _ (plain_name d h.0) (plain_append (name_text e) _ (plain_name e h.1) r)
 
 plain_guard : (p : PredicateName) → Short (predicate_number p) → plain (guard_text p) ≡ true
 plain_guard (predicate_name.Static n) h = by (eqb n 1)
