@@ -10,7 +10,7 @@ import sys
 
 WORD = r"[A-Za-z_][\w'-]*"
 TOKEN = re.compile(r"(?<![\w'-])" + WORD)
-DEFINES = re.compile(r"^\s*(?:(?:unfoldable |abbrev |mutual )?(?:pub )?)(?:(?:record|data) (?:pub )?)?(" + WORD + r")\s*(?:\{[^}]*\}|\([^)]*\)|\s)*:\s")
+DEFINES = re.compile(r"^\s*(?:(?:unfoldable |abbrev |mutual )?(?:pub )?)(?:(?:record|data) (?:pub )?)?(" + WORD + r")\s*(?:\{[^}]*\}|\([^)]*\)|\s)*:(?:\s|$)")
 NAMED = re.compile(r"\bas (" + WORD + r")")
 STRING = re.compile(r'"(?:\\.|[^"\\])*"')
 

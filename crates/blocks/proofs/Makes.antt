@@ -1,16 +1,14 @@
 -- Slots and bounds are made where their parts are right. Assumes nothing.
-use Rattle.std.proofs.Common.{◌≡◌, ℕ, ◌+◌, ◌<◌, ◌≤◌, Bool, true, false, cond, ◌||◌, ltb, List, [], ◌∷◌, ◌++◌, map, length, get_or, take, set, Some, None, Ok, Err, Option, Result, sym, refl, ap, ◌∙◌, subst, ap₂, arith, rules}
+use Rattle.std.proofs.Common.{◌≡◌, ℕ, ◌<◌, ◌≤◌, Bool, true, false, ◌||◌, map, length, get_or, Some, None, Ok, Option, Result, sym, refl, ap, ◌∙◌, subst, ap₂, arith, rules}
 use mathlib.Core.Bool.{Bool-set}
 use native.Mathlib.Bridge.{le_prop}
 use Rattle.std.proofs.lemmas.List.{get_or-map, get_or-take, get_or_past, length-map, length-take-le}
 use Rattle.std.proofs.lemmas.Bool.Decides.{nat_tests}
-use Rattle.operations.specs.declared.access.Class.{Class}
 use Rattle.operations.specs.declared.refusal.Refusal.{Refusal}
-use Rattle.operations.specs.declared.refusal.Refusal.TheVariants.{NoSuch}
 use Rattle.blocks.specs.declared.description.Slot.{Slot}
 use Rattle.blocks.specs.declared.description.Slots.{Slots}
 use Rattle.blocks.specs.declared.description.Bounds.{Bounds}
-use Rattle.blocks.specs.Machine.{slot_for, slot_taking, serves, slots_of, slot_at, in_order, bounds_for, bounded}
+use Rattle.blocks.specs.Machine.{slot_for, slot_taking, slots_of, slot_at, in_order, bounds_for, bounded}
 
 abbrev slot : (i m c : Bool) → (i || m || c) ≡ true → Slot
 slot i m c e = record { integer = i; memory = m; compare = c; some = e }

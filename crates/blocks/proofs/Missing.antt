@@ -1,6 +1,5 @@
 -- Where a register is missing, and where the operands do not fit. Assumes nothing.
-use Rattle.std.proofs.Common.{◌≡◌, ℕ, Bool, true, false, cond, ◌&&◌, Some, None, Ok, Err, Option, Result, sym, refl, ap, ◌∙◌, arith, rules}
-use Rattle.operations.specs.declared.operation.Operation.{Operation}
+use Rattle.std.proofs.Common.{◌≡◌, ℕ, true, false, Some, None, Err, Option, refl, arith, rules}
 use Rattle.operations.specs.declared.raw.RawOperation.{RawOperation}
 use Rattle.operations.specs.declared.refusal.Refusal.{Refusal}
 use Rattle.operations.specs.declared.refusal.Refusal.TheVariants.{NoSuch, WrongOperands}

@@ -1,5 +1,5 @@
 -- Block numbers and positions are equal where their numbers are. Assumes nothing.
-use Rattle.std.proofs.Common.{◌≡◌, ℕ, ◌<◌, Bool, true, false, ltb, Some, None, Option, refl, ap, rules, lt-ltb}
+use Rattle.std.proofs.Common.{◌≡◌, ℕ, ◌<◌, Bool, true, false, ltb, Some, Option, refl, ap, rules, lt-ltb}
 use native.Mathlib.Bridge.{le_prop}
 use Rattle.blocks.specs.declared.exit.BlockNumber.{BlockNumber}
 use Rattle.blocks.specs.Exits.{block_below, block_numbered}

@@ -1,9 +1,8 @@
 -- What the calls do to the whole set of blocks. Assumes nothing.
-use Rattle.std.specs.Prelude.{ℕ, cond, List, set, replicate, Some, None, Ok, Err, Option, nat_lt, slice_index_or, slice_set}
+use Rattle.std.specs.Prelude.{ℕ, cond, List, replicate, Some, None, Ok, Err, Option, nat_lt, slice_index_or, slice_set}
 use Rattle.operations.specs.declared.raw.RawOperation.{RawOperation}
 use Rattle.operations.specs.declared.refusal.Refusal.TheVariants.{NoSuch}
 use Rattle.blocks.specs.declared.description.Description.{Description}
-use Rattle.blocks.specs.declared.exit.Exit.{Exit}
 use Rattle.blocks.specs.declared.exit.RawExit.{RawExit}
 use Rattle.blocks.specs.Steps.{Outcome}
 use Rattle.blocks.specs.Machine.{slots_of}

@@ -1,5 +1,5 @@
 -- The slots of the machine, and how long results take. Assumes nothing.
-use Rattle.std.specs.Prelude.{◌≡◌, ℕ, Bool, true, false, cond, ◌&&◌, ◌||◌, List, [], ◌∷◌, ◌++◌, map, length, take, Some, None, Ok, Err, Option, Result, nat_le, nat_lt, slice_index_or, refl}
+use Rattle.std.specs.Prelude.{◌≡◌, ℕ, Bool, true, false, cond, ◌&&◌, ◌||◌, List, [], ◌∷◌, ◌++◌, map, take, Some, None, Ok, Err, Option, Result, nat_le, nat_lt, slice_index_or, refl}
 use Rattle.std.proofs.lemmas.Bool.{leb-true, and_parts}
 use Rattle.operations.specs.declared.access.Class.{Class}
 use Rattle.operations.specs.declared.access.Class.TheVariants as class

@@ -5,10 +5,10 @@ use Rattle.opcodes.specs.declared.integer.BinaryOpcode.{BinaryOpcode}
 use Rattle.opcodes.specs.declared.integer.BinaryOpcode.TheVariants as binary
 use Rattle.opcodes.specs.declared.integer.UnaryOpcode.{UnaryOpcode}
 use Rattle.opcodes.specs.declared.integer.UnaryOpcode.TheVariants as unary
-use Rattle.registers.specs.declared.names.GeneralName.TheVariants as general_name
-use Rattle.registers.specs.declared.names.PredicateName.TheVariants as predicate_name
-use Rattle.registers.specs.declared.names.RegisterName.{RegisterName}
-use Rattle.registers.specs.declared.names.RegisterName.TheVariants as name
+use Rattle.lines.specs.declared.written.WrittenGeneral.TheVariants as general_name
+use Rattle.lines.specs.declared.written.WrittenPredicate.TheVariants as predicate_name
+use Rattle.lines.specs.declared.written.WrittenRegister.{WrittenRegister}
+use Rattle.lines.specs.declared.written.WrittenRegister.TheVariants as name
 use Rattle.operations.specs.declared.raw.Opcode.{Opcode}
 use Rattle.operations.specs.declared.raw.Opcode.TheVariants as opcode
 use Rattle.lines.specs.declared.mark.Mark.{Mark}
@@ -45,7 +45,7 @@ lead_digit b c d = grind arith
 lead_minus : (c : ℕ) → Digit c → lead 45 c ≡ 1
 lead_minus c d = grind arith
 
-lead_name : (x : RegisterName) (rest : List ℕ) → lead_of (name_text x ++ rest) ≡ 0
+lead_name : (x : WrittenRegister) (rest : List ℕ) → lead_of (name_text x ++ rest) ≡ 0
 lead_name (name.General (general_name.Static n)) rest = refl
 lead_name (name.General (general_name.Rotating n)) rest = refl
 lead_name (name.Predicate (predicate_name.Static n)) rest = refl
@@ -110,7 +110,7 @@ one_kind : (t : List ℕ) (j k : Token) (r s : List ℕ) → TokenAt t j r → T
 one_kind t j k r s g h = sym (lead_token t j r g) ∙ lead_token t k s h
 
 -- what is read is the item, if it is the only one of its kind
-pub only_register : (t : List ℕ) (x : RegisterName) (r : List ℕ) (k : Token) (s : List ℕ) → TokenAt t (token.Register x) r → ((x' : RegisterName) (s : List ℕ) → TokenAt t (token.Register x') s → (x ≡ x') × (r ≡ s)) → TokenAt t k s → (token.Register x ≡ k) × (r ≡ s)
+pub only_register : (t : List ℕ) (x : WrittenRegister) (r : List ℕ) (k : Token) (s : List ℕ) → TokenAt t (token.Register x) r → ((x' : WrittenRegister) (s : List ℕ) → TokenAt t (token.Register x') s → (x ≡ x') × (r ≡ s)) → TokenAt t k s → (token.Register x ≡ k) × (r ≡ s)
 only_register t x r (token.Register y) s g only h = let e = only y s h in (ap token.Register e.0, e.1)
 only_register t x r (token.Literal y) s g only h = absurd (omega (arith, one_kind t _ _ r s g h))
 only_register t x r (token.Opcode y) s g only h = absurd (omega (arith, one_kind t _ _ r s g h))

@@ -2,8 +2,8 @@
 use Rattle.std.proofs.Common.{◌≡◌, ℕ, Bool, true, false, cond, List, [], ◌∷◌, ◌++◌, get_or, ℤ, pos, negsuc, Some, None, codes, Option, sym, refl, ap, ◌∙◌, subst, ⊎_elim, append-nil, arith}
 use Rattle.std.specs.Int.{IsInRange}
 use Rattle.std.proofs.lemmas.Bool.{false≢true, cases_Bool, cond-true, cond-false}
-use Rattle.registers.specs.declared.names.PredicateName.{PredicateName}
-use Rattle.registers.specs.declared.names.RegisterName.TheVariants as name
+use Rattle.lines.specs.declared.written.WrittenPredicate.{WrittenPredicate}
+use Rattle.lines.specs.declared.written.WrittenRegister.TheVariants as name
 use Rattle.lines.specs.declared.written.WrittenOperand.{WrittenOperand}
 use Rattle.lines.specs.declared.written.WrittenOperand.TheVariants as operand
 use Rattle.lines.specs.declared.written.WrittenSources.{WrittenSources}
@@ -19,11 +19,11 @@ use Rattle.lines.proofs.Sayings.{none_some, some_same}
 pub first : {s t : List ℕ} → s ≡ t → get_or s 0 0 ≡ get_or t 0 0
 first e = ap (λ l. get_or l 0 0) e
 
-pub written_out : (g : PredicateName) (t : List ℕ) → (t ≡ [] → ⊥) → t ≡ guard_text g → t ≡ codes " if " ++ predicate_name_text g
+pub written_out : (g : WrittenPredicate) (t : List ℕ) → (t ≡ [] → ⊥) → t ≡ guard_text g → t ≡ codes " if " ++ predicate_name_text g
 written_out g t some e = ⊎_elim (λ b. absurd (some (e ∙ cond-true _ _ _ b))) (λ b. e ∙ cond-false _ _ _ b) (cases_Bool (always g))
 
 -- a guard that is written out, read up to t2
-pub guard_read : (t0 t1 t2 : List ℕ) (r : Option PredicateName) → (t0 ≡ [] → ⊥) → Passes (codes " if ") t0 true t1 → Says (λ p. token.Register (name.Predicate p)) t1 r t2 → (g : PredicateName) → Short (predicate_number g) → t0 ≡ guard_text g → (r ≡ Some g) × (t2 ≡ [])
+pub guard_read : (t0 t1 t2 : List ℕ) (r : Option WrittenPredicate) → (t0 ≡ [] → ⊥) → Passes (codes " if ") t0 true t1 → Says (λ p. token.Register (name.Predicate p)) t1 r t2 → (g : WrittenPredicate) → Short (predicate_number g) → t0 ≡ guard_text g → (r ≡ Some g) × (t2 ≡ [])
 guard_read t0 t1 t2 r some p s g short e =
     let e1 = (p.complete (predicate_name_text g) (written_out g t0 some e)).1 in
     s.complete g [] (record { short = short; whole = e1 ∙ sym (append-nil (predicate_name_text g)); ends = tt })

@@ -3,9 +3,9 @@ use Rattle.std.proofs.Common.{◌≡◌, ℕ, ◌+◌, ◌<◌, ◌≤◌, Bool,
 use Rattle.std.proofs.lemmas.List.{drop_more, drop_all}
 use Rattle.std.proofs.lemmas.Bool.{false≢true}
 use Rattle.operations.specs.declared.raw.Opcode.{Opcode}
-use Rattle.registers.specs.declared.names.PredicateName.{PredicateName}
-use Rattle.registers.specs.declared.names.RegisterName.{RegisterName}
-use Rattle.registers.specs.declared.names.RegisterName.TheVariants as name
+use Rattle.lines.specs.declared.written.WrittenPredicate.{WrittenPredicate}
+use Rattle.lines.specs.declared.written.WrittenRegister.{WrittenRegister}
+use Rattle.lines.specs.declared.written.WrittenRegister.TheVariants as name
 use Rattle.lines.specs.declared.written.Token.{Token}
 use Rattle.lines.specs.declared.written.Token.TheVariants as token
 use Rattle.lines.specs.declared.mark.Mark.{Mark}
@@ -36,13 +36,13 @@ module _ {X : Type 0} (token : X → Token) (text rest : List ℕ) where
         (is ∙ ap say (some_same k (token x) p.0) ∙ there x, p.1);
   }
 
-pub name_back : (k : Token) (x : RegisterName) → name_said k ≡ Some x → k ≡ token.Register x
+pub name_back : (k : Token) (x : WrittenRegister) → name_said k ≡ Some x → k ≡ token.Register x
 name_back (token.Register y) x e = ap token.Register (some_same y x e)
 name_back (token.Literal z) x e = absurd (none_some x e)
 name_back (token.Opcode o) x e = absurd (none_some x e)
 name_back (token.Mark m) x e = absurd (none_some x e)
 
-pub predicate_back : (k : Token) (p : PredicateName) → predicate_said k ≡ Some p → k ≡ token.Register (name.Predicate p)
+pub predicate_back : (k : Token) (p : WrittenPredicate) → predicate_said k ≡ Some p → k ≡ token.Register (name.Predicate p)
 predicate_back (token.Register (name.General g)) p e = absurd (none_some p e)
 predicate_back (token.Register (name.Predicate q)) p e = ap (λ x. token.Register (name.Predicate x)) (some_same q p e)
 predicate_back (token.Literal z) p e = absurd (none_some p e)

@@ -1,7 +1,7 @@
 -- Lines that begin with a word. Assumes nothing.
 use Rattle.std.proofs.Common.{◌≡◌, ℕ, ◌<◌, ◌≤◌, List, [], ◌∷◌, ◌++◌, get_or, IfSome, Some, None, codes, decimal, Option, sym, refl, ap, ◌∙◌, subst, arith}
-use Rattle.blocks.specs.declared.exit.RawExit.{RawExit}
-use Rattle.blocks.specs.declared.exit.RawExit.TheVariants as exit
+use Rattle.lines.specs.declared.written.WrittenExit.{WrittenExit}
+use Rattle.lines.specs.declared.written.WrittenExit.TheVariants as exit
 use Rattle.lines.specs.declared.mark.Mark.{Mark}
 use Rattle.lines.specs.declared.mark.Mark.TheVariants as mark
 use Rattle.lines.specs.declared.written.WrittenPosition.{WrittenPosition}
@@ -18,21 +18,21 @@ use Rattle.lines.proofs.NameTexts.{first_digit}
 use Rattle.lines.proofs.Operands.{first}
 
 -- the word that an exit begins with, and what stands behind it
-abbrev exit_word : RawExit → Mark
+abbrev exit_word : WrittenExit → Mark
 exit_word exit.Halt = mark.Halt
 exit_word exit.Next = mark.Next
 exit_word (exit.Goto t) = mark.Goto
 exit_word (exit.If p t) = mark.If
 exit_word (exit.Loop t) = mark.Loop
 
-abbrev exit_after : RawExit → List ℕ
+abbrev exit_after : WrittenExit → List ℕ
 exit_after exit.Halt = []
 exit_after exit.Next = []
 exit_after (exit.Goto t) = target_text t
 exit_after (exit.If p t) = branch_text (exit.If p t)
 exit_after (exit.Loop t) = target_text t
 
-exit_split : (x : RawExit) → exit_text x ≡ mark_text (exit_word x) ++ exit_after x
+exit_split : (x : WrittenExit) → exit_text x ≡ mark_text (exit_word x) ++ exit_after x
 exit_split exit.Halt = refl
 exit_split exit.Next = refl
 exit_split (exit.Goto t) = refl
@@ -42,7 +42,7 @@ exit_split (exit.Loop t) = refl
 pub word_told : (m : Mark) (t0 t1 after : List ℕ) (r : Option Mark) → Says token.Mark t0 r t1 → t0 ≡ mark_text m ++ after → (r ≡ Some m) × (t1 ≡ after)
 word_told m t0 t1 after r s e = s.complete m after (record { short = tt; whole = e; ends = tt })
 
-exit_told : (x : RawExit) (t0 t1 : List ℕ) (r : Option Mark) → Says token.Mark t0 r t1 → t0 ≡ exit_text x → (r ≡ Some (exit_word x)) × (t1 ≡ exit_after x)
+exit_told : (x : WrittenExit) (t0 t1 : List ℕ) (r : Option Mark) → Says token.Mark t0 r t1 → t0 ≡ exit_text x → (r ≡ Some (exit_word x)) × (t1 ≡ exit_after x)
 exit_told x t0 t1 r s e = word_told (exit_word x) t0 t1 (exit_after x) r s (e ∙ exit_split x)
 
 pub exit_none : (t0 t1 : List ℕ) → Says token.Mark t0 None t1 → Whole exit_text ShortExit t0 None
@@ -52,10 +52,10 @@ exit_none t0 t1 s = record { sound = tt; complete = λ x short e. absurd (none_s
 pub other : (m n : Mark) → (get_or (mark_text m) 0 0 ≡ get_or (mark_text n) 0 0 → ⊥) → Some m ≡ Some n → ⊥
 other m n h e = h (ap (λ l. get_or (mark_text l) 0 0) (some_same m n e))
 
-pub exit_if : (t0 t1 : List ℕ) (r : Option RawExit) → Says token.Mark t0 (Some mark.If) t1 → Whole branch_text ShortBranch t1 r → Whole exit_text ShortExit t0 r
+pub exit_if : (t0 t1 : List ℕ) (r : Option WrittenExit) → Says token.Mark t0 (Some mark.If) t1 → Whole branch_text ShortBranch t1 r → Whole exit_text ShortExit t0 r
 exit_if t0 t1 r s w = record { sound = there r w.sound; complete = by }
   where
-    there : (r : Option RawExit) → IfSome r (λ x. ShortBranch x × (t1 ≡ branch_text x)) → IfSome r (λ x. ShortExit x × (t0 ≡ exit_text x))
+    there : (r : Option WrittenExit) → IfSome r (λ x. ShortBranch x × (t1 ≡ branch_text x)) → IfSome r (λ x. ShortExit x × (t0 ≡ exit_text x))
     there None h = tt
     there (Some exit.Halt) h = absurd h.0
     there (Some exit.Next) h = absurd h.0
@@ -63,7 +63,7 @@ exit_if t0 t1 r s w = record { sound = there r w.sound; complete = by }
     there (Some (exit.If p t)) h = (h.0, s.sound.whole ∙ ap (λ l. codes "if" ++ l) h.1)
     there (Some (exit.Loop t)) h = absurd h.0
 
-    by : (x : RawExit) → ShortExit x → t0 ≡ exit_text x → r ≡ Some x
+    by : (x : WrittenExit) → ShortExit x → t0 ≡ exit_text x → r ≡ Some x
     by exit.Halt h e = absurd (other mark.If mark.Halt (λ f. omega (arith, f)) (exit_told exit.Halt t0 t1 _ s e).0)
     by exit.Next h e = absurd (other mark.If mark.Next (λ f. omega (arith, f)) (exit_told exit.Next t0 t1 _ s e).0)
     by (exit.Goto t) h e = absurd (other mark.If mark.Goto (λ f. omega (arith, f)) (exit_told (exit.Goto t) t0 t1 _ s e).0)
@@ -76,7 +76,7 @@ Line t r = Whole program_line_text ShortProgram t r
 block_told : (n : ℕ) (t0 t1 : List ℕ) (r : Option Mark) → Says token.Mark t0 r t1 → t0 ≡ codes "block " ++ decimal n → (r ≡ Some mark.Block) × (t1 ≡ target_text n)
 block_told n t0 t1 r s e = word_told mark.Block t0 t1 (target_text n) r s e
 
-end_told : (x : RawExit) (t0 t1 : List ℕ) (r : Option Mark) → Says token.Mark t0 r t1 → t0 ≡ codes "exit " ++ exit_text x → (r ≡ Some mark.Exit) × (t1 ≡ exit_behind x)
+end_told : (x : WrittenExit) (t0 t1 : List ℕ) (r : Option Mark) → Says token.Mark t0 r t1 → t0 ≡ codes "exit " ++ exit_text x → (r ≡ Some mark.Exit) × (t1 ≡ exit_behind x)
 end_told x t0 t1 r s e = word_told mark.Exit t0 t1 (exit_behind x) r s e
 
 -- an operation begins with a dash or with a digit
@@ -119,7 +119,7 @@ module _ (t0 t1 : List ℕ) (s : Says token.Mark t0 (Some mark.Block) t1) where
       by (line.Exit x) h e = absurd (other mark.Block mark.Exit (λ f. omega (arith, f)) (end_told x t0 t1 _ s e).0)
 
 module _ (t0 t1 : List ℕ) (s : Says token.Mark t0 (Some mark.Exit) t1) where
-  pub line_exit : (x : RawExit) → Whole exit_behind ShortExit t1 (Some x) → Line t0 (Some (line.Exit x))
+  pub line_exit : (x : WrittenExit) → Whole exit_behind ShortExit t1 (Some x) → Line t0 (Some (line.Exit x))
   line_exit x w = record { sound = (w.sound.0, s.sound.whole ∙ ap (λ l. codes "exit" ++ l) w.sound.1); complete = by }
     where
       by : (y : ProgramLine) → ShortProgram y → t0 ≡ program_line_text y → Some (line.Exit x) ≡ Some y

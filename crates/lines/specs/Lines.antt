@@ -1,7 +1,7 @@
 -- The lines of the two texts. Assumes nothing.
 use Rattle.std.specs.Prelude.{◌≡◌, ℕ, true, cond, ◌||◌, List, [], ◌++◌, Some, None, codes, decimal, Option}
-use Rattle.blocks.specs.declared.exit.RawExit.{RawExit}
-use Rattle.blocks.specs.declared.exit.RawExit.TheVariants.{Halt, Next, Goto, If, Loop}
+use Rattle.lines.specs.declared.written.WrittenExit.{WrittenExit}
+use Rattle.lines.specs.declared.written.WrittenExit.TheVariants.{Halt, Next, Goto, If, Loop}
 use Rattle.lines.specs.declared.written.WrittenPosition.{WrittenPosition}
 use Rattle.lines.specs.declared.written.WrittenBounds.{WrittenBounds}
 use Rattle.lines.specs.declared.written.Classes.{Classes}
@@ -17,7 +17,7 @@ abbrev pub position_text : Option WrittenPosition → List ℕ → List ℕ
 position_text None rest = codes "- " ++ rest
 position_text (Some p) rest = decimal p.cycle ++ (codes ":" ++ (decimal p.slot ++ (codes " " ++ rest)))
 
-abbrev pub exit_text : RawExit → List ℕ
+abbrev pub exit_text : WrittenExit → List ℕ
 exit_text Halt = codes "halt"
 exit_text Next = codes "next"
 exit_text (Goto t) = codes "goto " ++ decimal t
@@ -45,7 +45,7 @@ abbrev pub ShortPosition : Option WrittenPosition → Type 0
 ShortPosition None = Unit {0}
 ShortPosition (Some p) = Short p.cycle × Short p.slot
 
-abbrev pub ShortExit : RawExit → Type 0
+abbrev pub ShortExit : WrittenExit → Type 0
 ShortExit Halt = Unit {0}
 ShortExit Next = Unit {0}
 ShortExit (Goto t) = Short t

@@ -1,17 +1,17 @@
 -- What a token says, where one of that kind is expected. Assumes nothing.
 use Rattle.std.specs.Prelude.{◌≡◌, ℕ, Bool, true, List, [], ◌++◌, pos, negsuc, IfSome, Some, None, codes, decimal, Option}
 use Rattle.operations.specs.declared.raw.Opcode.{Opcode}
-use Rattle.registers.specs.declared.names.PredicateName.{PredicateName}
-use Rattle.registers.specs.declared.names.RegisterName.{RegisterName}
-use Rattle.registers.specs.declared.names.RegisterName.TheVariants as name
+use Rattle.lines.specs.declared.written.WrittenPredicate.{WrittenPredicate}
+use Rattle.lines.specs.declared.written.WrittenRegister.{WrittenRegister}
+use Rattle.lines.specs.declared.written.WrittenRegister.TheVariants as name
 use Rattle.lines.specs.declared.written.WrittenOperand.{WrittenOperand}
 use Rattle.lines.specs.declared.written.WrittenOperand.TheVariants as operand
 use Rattle.lines.specs.declared.written.Token.{Token}
 use Rattle.lines.specs.declared.written.Token.TheVariants as token
 use Rattle.lines.specs.declared.written.Token.TheVariants.{Register, Literal}
 use Rattle.lines.specs.declared.mark.Mark.{Mark}
-use Rattle.blocks.specs.declared.exit.RawExit.{RawExit}
-use Rattle.blocks.specs.declared.exit.RawExit.TheVariants as exit
+use Rattle.lines.specs.declared.written.WrittenExit.{WrittenExit}
+use Rattle.lines.specs.declared.written.WrittenExit.TheVariants as exit
 use Rattle.operations.specs.declared.raw.UpToTwo.{UpToTwo}
 use Rattle.operations.specs.declared.raw.UpToTwo.TheVariants as up_to
 use Rattle.lines.specs.declared.written.WrittenOperation.{WrittenOperation}
@@ -27,17 +27,17 @@ use Rattle.lines.specs.Numbers.{Short}
 use Rattle.lines.specs.Written.{name_text, predicate_name_text, call_text, predicate_number, ShortName, ShortSources, ShortOperation}
 use Rattle.lines.specs.Tokens.{TokenAt}
 
-abbrev pub name_said : Token → Option RegisterName
+abbrev pub name_said : Token → Option WrittenRegister
 name_said (Register x) = Some x
 name_said (Literal z) = None
 name_said (token.Opcode o) = None
 name_said (token.Mark m) = None
 
-abbrev pub predicate_in : RegisterName → Option PredicateName
+abbrev pub predicate_in : WrittenRegister → Option WrittenPredicate
 predicate_in (name.General g) = None
 predicate_in (name.Predicate p) = Some p
 
-abbrev pub predicate_said : Token → Option PredicateName
+abbrev pub predicate_said : Token → Option WrittenPredicate
 predicate_said (Register x) = predicate_in x
 predicate_said (Literal z) = None
 predicate_said (token.Opcode o) = None
@@ -101,7 +101,7 @@ pub record ShortCall (w : WrittenOperation) : Type 0 where
   pub guard : Short (predicate_number w.guard)
 
 -- and behind the first of them
-abbrev pub behind_first : UpToTwo RegisterName → List ℕ → List ℕ
+abbrev pub behind_first : UpToTwo WrittenRegister → List ℕ → List ℕ
 behind_first up_to.Zero rest = rest
 behind_first (up_to.One d) rest = codes " = " ++ rest
 behind_first (up_to.Two d e) rest = codes ", " ++ (name_text e ++ (codes " = " ++ rest))
@@ -109,20 +109,20 @@ behind_first (up_to.Two d e) rest = codes ", " ++ (name_text e ++ (codes " = " +
 abbrev pub behind_text : WrittenOperation → List ℕ
 behind_text w = behind_first w.destinations (call_of w)
 
-abbrev pub FirstIs : RegisterName → UpToTwo RegisterName → Type 0
+abbrev pub FirstIs : WrittenRegister → UpToTwo WrittenRegister → Type 0
 FirstIs x up_to.Zero = ⊥
 FirstIs x (up_to.One d) = d ≡ x
 FirstIs x (up_to.Two d e) = (d ≡ x) × ShortName e
 
 -- an exit behind `if`
-abbrev pub branch_text : RawExit → List ℕ
+abbrev pub branch_text : WrittenExit → List ℕ
 branch_text exit.Halt = []
 branch_text exit.Next = []
 branch_text (exit.Goto t) = []
 branch_text (exit.If p t) = codes " " ++ (predicate_name_text p ++ (codes " goto " ++ decimal t))
 branch_text (exit.Loop t) = []
 
-abbrev pub ShortBranch : RawExit → Type 0
+abbrev pub ShortBranch : WrittenExit → Type 0
 ShortBranch exit.Halt = ⊥
 ShortBranch exit.Next = ⊥
 ShortBranch (exit.Goto t) = ⊥
@@ -130,7 +130,7 @@ ShortBranch (exit.If p t) = Short (predicate_number p) × Short t
 ShortBranch (exit.Loop t) = ⊥
 
 -- an exit behind a space
-abbrev pub exit_behind : RawExit → List ℕ
+abbrev pub exit_behind : WrittenExit → List ℕ
 exit_behind x = codes " " ++ exit_text x
 
 -- a number behind a space

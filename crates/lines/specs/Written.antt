@@ -2,12 +2,12 @@
 use Rattle.std.specs.Prelude.{ℕ, Bool, false, cond, List, [], ◌++◌, codes, decimal, ◌==◌}
 use Rattle.std.specs.Fmt.{signed_decimal}
 use Rattle.opcodes.specs.Texts.{binary_text, unary_text, condition_text, action_text}
-use Rattle.registers.specs.declared.names.GeneralName.{GeneralName}
-use Rattle.registers.specs.declared.names.GeneralName.TheVariants as general_name
-use Rattle.registers.specs.declared.names.PredicateName.{PredicateName}
-use Rattle.registers.specs.declared.names.PredicateName.TheVariants as predicate_name
-use Rattle.registers.specs.declared.names.RegisterName.{RegisterName}
-use Rattle.registers.specs.declared.names.RegisterName.TheVariants as name
+use Rattle.lines.specs.declared.written.WrittenGeneral.{WrittenGeneral}
+use Rattle.lines.specs.declared.written.WrittenGeneral.TheVariants as general_name
+use Rattle.lines.specs.declared.written.WrittenPredicate.{WrittenPredicate}
+use Rattle.lines.specs.declared.written.WrittenPredicate.TheVariants as predicate_name
+use Rattle.lines.specs.declared.written.WrittenRegister.{WrittenRegister}
+use Rattle.lines.specs.declared.written.WrittenRegister.TheVariants as name
 use Rattle.operations.specs.declared.raw.Opcode.{Opcode}
 use Rattle.operations.specs.declared.raw.Opcode.TheVariants as opcode
 use Rattle.operations.specs.declared.raw.UpToTwo.{UpToTwo}
@@ -19,15 +19,15 @@ use Rattle.lines.specs.declared.written.WrittenSources.TheVariants.{One, Two}
 use Rattle.lines.specs.declared.written.WrittenOperation.{WrittenOperation}
 use Rattle.lines.specs.Numbers.{Short, ShortLiteral}
 
-abbrev pub general_name_text : GeneralName → List ℕ
+abbrev pub general_name_text : WrittenGeneral → List ℕ
 general_name_text (general_name.Static n) = codes "r" ++ decimal n
 general_name_text (general_name.Rotating n) = codes "rr" ++ decimal n
 
-abbrev pub predicate_name_text : PredicateName → List ℕ
+abbrev pub predicate_name_text : WrittenPredicate → List ℕ
 predicate_name_text (predicate_name.Static n) = codes "p" ++ decimal n
 predicate_name_text (predicate_name.Rotating n) = codes "rp" ++ decimal n
 
-abbrev pub name_text : RegisterName → List ℕ
+abbrev pub name_text : WrittenRegister → List ℕ
 name_text (name.General g) = general_name_text g
 name_text (name.Predicate p) = predicate_name_text p
 
@@ -48,42 +48,42 @@ sources_text (One a) rest = operand_text a ++ rest
 sources_text (Two a b) rest = operand_text a ++ (codes ", " ++ (operand_text b ++ rest))
 
 -- the destinations, and then rest
-abbrev pub destinations_text : UpToTwo RegisterName → List ℕ → List ℕ
+abbrev pub destinations_text : UpToTwo WrittenRegister → List ℕ → List ℕ
 destinations_text up_to.Zero rest = rest
 destinations_text (up_to.One d) rest = name_text d ++ (codes " = " ++ rest)
 destinations_text (up_to.Two d e) rest = name_text d ++ (codes ", " ++ (name_text e ++ (codes " = " ++ rest)))
 
 -- p1, the guard that is left off
-abbrev pub always : PredicateName → Bool
+abbrev pub always : WrittenPredicate → Bool
 always (predicate_name.Static n) = n == 1
 always (predicate_name.Rotating n) = false
 
-abbrev pub guard_text : PredicateName → List ℕ
+abbrev pub guard_text : WrittenPredicate → List ℕ
 guard_text g = cond (always g) [] (codes " if " ++ predicate_name_text g)
 
 -- the sources, the bracket behind them, and the guard
-abbrev pub closing_text : WrittenSources → PredicateName → List ℕ
+abbrev pub closing_text : WrittenSources → WrittenPredicate → List ℕ
 closing_text s g = sources_text s (codes ")" ++ guard_text g)
 
-abbrev pub call_text : Opcode → WrittenSources → PredicateName → List ℕ
+abbrev pub call_text : Opcode → WrittenSources → WrittenPredicate → List ℕ
 call_text o s g = opcode_text o ++ (codes "(" ++ closing_text s g)
 
 abbrev pub written_text : WrittenOperation → List ℕ
 written_text w = destinations_text w.destinations (call_text w.opcode w.sources w.guard)
 
-abbrev pub general_number : GeneralName → ℕ
+abbrev pub general_number : WrittenGeneral → ℕ
 general_number (general_name.Static n) = n
 general_number (general_name.Rotating n) = n
 
-abbrev pub predicate_number : PredicateName → ℕ
+abbrev pub predicate_number : WrittenPredicate → ℕ
 predicate_number (predicate_name.Static n) = n
 predicate_number (predicate_name.Rotating n) = n
 
-abbrev pub name_number : RegisterName → ℕ
+abbrev pub name_number : WrittenRegister → ℕ
 name_number (name.General g) = general_number g
 name_number (name.Predicate p) = predicate_number p
 
-abbrev pub ShortName : RegisterName → Type 0
+abbrev pub ShortName : WrittenRegister → Type 0
 ShortName x = Short (name_number x)
 
 abbrev pub ShortOperand : WrittenOperand → Type 0
@@ -94,7 +94,7 @@ abbrev pub ShortSources : WrittenSources → Type 0
 ShortSources (One a) = ShortOperand a
 ShortSources (Two a b) = ShortOperand a × ShortOperand b
 
-abbrev pub ShortDestinations : UpToTwo RegisterName → Type 0
+abbrev pub ShortDestinations : UpToTwo WrittenRegister → Type 0
 ShortDestinations up_to.Zero = Unit {0}
 ShortDestinations (up_to.One d) = ShortName d
 ShortDestinations (up_to.Two d e) = ShortName d × ShortName e

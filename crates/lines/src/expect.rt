@@ -5,14 +5,13 @@ ghost use Rattle.lines.specs.Marks.{mark_text, marks_text};
 ghost use Rattle.lines.specs.Said.{Says, Passes, operand_token};
 ghost use Rattle.lines.specs.declared.written.Token.{Token};
 ghost use Rattle.lines.specs.declared.written.Token.TheVariants as token;
-ghost use Rattle.registers.specs.declared.names.RegisterName.TheVariants as name;
+ghost use Rattle.lines.specs.declared.written.WrittenRegister.TheVariants as name;
 
 use crate::item::Item;
 use crate::mark::Mark;
 use crate::place::Reader;
-use crate::written::{Token, WrittenOperand};
+use crate::written::{Token, WrittenOperand, WrittenPredicate, WrittenRegister};
 use operations::Opcode;
-use registers::{PredicateName, RegisterName};
 
 impl<'a> Item<'a> {
     fn token(self) -> Token
@@ -36,7 +35,7 @@ fn said(reader: &mut Reader) -> Option<Token>
     Some(item.token())
 }
 
-pub(crate) fn register(reader: &mut Reader) -> Option<RegisterName>
+pub(crate) fn register(reader: &mut Reader) -> Option<WrittenRegister>
     ensures { Says token.Register (left reader.old) result (left reader.new) }
 {
     let Some(token) = said(reader) else {
@@ -45,7 +44,7 @@ pub(crate) fn register(reader: &mut Reader) -> Option<RegisterName>
     token.name()
 }
 
-pub(crate) fn predicate(reader: &mut Reader) -> Option<PredicateName>
+pub(crate) fn predicate(reader: &mut Reader) -> Option<WrittenPredicate>
     ensures { Says (λ p. token.Register (name.Predicate p)) (left reader.old) result (left reader.new) }
 {
     let Some(token) = said(reader) else {

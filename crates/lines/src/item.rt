@@ -3,15 +3,14 @@ ghost use Rattle.std.specs.Prelude.{◌≡◌};
 ghost use Rattle.lines.specs.Items.{item_token, item_text, item_place};
 
 use crate::mark::Mark;
-use crate::written::Token;
+use crate::written::{Token, WrittenRegister};
 use operations::Opcode;
-use registers::RegisterName;
 
 // What an item says, its part of the line, and where in the line that part begins.
 #[derive(Clone, Copy)]
 pub enum Item<'a> {
     Register {
-        name: RegisterName,
+        name: WrittenRegister,
         text: &'a [u8],
         at: usize,
     },

@@ -28,6 +28,7 @@ pub use mark::{Latency, Mark};
 pub use place::Reader;
 pub use program::program_line;
 pub use written::{
-    Classes, DescriptionLine, ProgramLine, Token, WrittenBounds, WrittenOperand, WrittenOperation,
-    WrittenPosition, WrittenSources,
+    Classes, DescriptionLine, ProgramLine, Token, WrittenBounds, WrittenExit, WrittenGeneral,
+    WrittenOperand, WrittenOperation, WrittenPosition, WrittenPredicate, WrittenRegister,
+    WrittenSources,
 };

@@ -8,28 +8,27 @@ ghost use Rattle.lines.specs.Written.{always, guard_text, sources_text, written_
 use crate::expect::{marks, opcode, operand, predicate, register};
 use crate::mark::Mark;
 use crate::place::Reader;
-use crate::written::{WrittenOperation, WrittenSources};
+use crate::written::{WrittenOperation, WrittenPredicate, WrittenRegister, WrittenSources};
 use operations::UpToTwo;
-use registers::{PredicateName, RegisterName};
 
 const ALWAYS: u64 = 1;
 
 // Whether it is p1, which is not written as a guard.
-fn is_always(name: PredicateName) -> bool
+fn is_always(name: WrittenPredicate) -> bool
     ensures { result ≡ always name }
 {
     match name {
-        PredicateName::Static(number) => number == ALWAYS,
-        PredicateName::Rotating(_) => false,
+        WrittenPredicate::Static(number) => number == ALWAYS,
+        WrittenPredicate::Rotating(_) => false,
     }
 }
 
 // The guard, up to the end of the line.
-fn guard(reader: &mut Reader) -> Option<PredicateName>
+fn guard(reader: &mut Reader) -> Option<WrittenPredicate>
     ensures { Whole guard_text (λ g. Short (predicate_number g)) (left reader.old) result }
 {
     if reader.is_done() {
-        return Some(PredicateName::Static(ALWAYS));
+        return Some(WrittenPredicate::Static(ALWAYS));
     }
     if !marks(reader, &[Mark::Space, Mark::If, Mark::Space]) {
         return None;
@@ -68,7 +67,7 @@ fn sources(reader: &mut Reader) -> Option<WrittenSources>
 }
 
 // The opcode, the sources and the guard, behind the destinations.
-fn call(reader: &mut Reader, destinations: UpToTwo<RegisterName>) -> Option<WrittenOperation>
+fn call(reader: &mut Reader, destinations: UpToTwo<WrittenRegister>) -> Option<WrittenOperation>
     ensures { Whole call_of (λ w. (w.destinations ≡ destinations) × ShortCall w) (left reader.old) result }
 {
     let Some(opcode) = opcode(reader) else {
@@ -92,7 +91,7 @@ fn call(reader: &mut Reader, destinations: UpToTwo<RegisterName>) -> Option<Writ
 }
 
 // What stands behind the first destination.
-fn behind(reader: &mut Reader, first: RegisterName) -> Option<WrittenOperation>
+fn behind(reader: &mut Reader, first: WrittenRegister) -> Option<WrittenOperation>
     ensures { Whole behind_text (λ w. FirstIs first w.destinations × ShortCall w) (left reader.old) result }
 {
     let mut ahead = *reader;

@@ -10,8 +10,7 @@ use crate::expect::{marks, number, predicate, word};
 use crate::mark::Mark;
 use crate::operation::operation;
 use crate::place::Reader;
-use crate::written::{ProgramLine, WrittenPosition};
-use blocks::RawExit;
+use crate::written::{ProgramLine, WrittenExit, WrittenPosition};
 
 // The cycle and the slot of an operation, or that it has none.
 fn position(reader: &mut Reader) -> Option<Option<WrittenPosition>>
@@ -58,7 +57,7 @@ fn target(reader: &mut Reader) -> Option<u64>
 }
 
 // `if` has been read.
-fn branch(reader: &mut Reader) -> Option<RawExit>
+fn branch(reader: &mut Reader) -> Option<WrittenExit>
     ensures { Whole branch_text ShortBranch (left reader.old) result }
 {
     if !marks(reader, &[Mark::Space]) {
@@ -73,11 +72,11 @@ fn branch(reader: &mut Reader) -> Option<RawExit>
     let Some(target) = target(reader) else {
         return None;
     };
-    Some(RawExit::If { predicate, target })
+    Some(WrittenExit::If { predicate, target })
 }
 
 // An exit, up to the end of the line.
-fn exit(reader: &mut Reader) -> Option<RawExit>
+fn exit(reader: &mut Reader) -> Option<WrittenExit>
     ensures { Whole exit_text ShortExit (left reader.old) result }
 {
     let Some(word) = word(reader) else {
@@ -86,24 +85,24 @@ fn exit(reader: &mut Reader) -> Option<RawExit>
     match word {
         Mark::Halt => {
             if reader.is_done() {
-                Some(RawExit::Halt)
+                Some(WrittenExit::Halt)
             } else {
                 None
             }
         }
         Mark::Next => {
             if reader.is_done() {
-                Some(RawExit::Next)
+                Some(WrittenExit::Next)
             } else {
                 None
             }
         }
         Mark::Goto => match target(reader) {
-            Some(target) => Some(RawExit::Goto(target)),
+            Some(target) => Some(WrittenExit::Goto(target)),
             None => None,
         },
         Mark::Loop => match target(reader) {
-            Some(target) => Some(RawExit::Loop(target)),
+            Some(target) => Some(WrittenExit::Loop(target)),
             None => None,
         },
         Mark::If => branch(reader),
@@ -112,7 +111,7 @@ fn exit(reader: &mut Reader) -> Option<RawExit>
 }
 
 // A space and an exit, up to the end of the line.
-fn exit_line(reader: &mut Reader) -> Option<RawExit>
+fn exit_line(reader: &mut Reader) -> Option<WrittenExit>
     ensures { Whole exit_behind ShortExit (left reader.old) result }
 {
     if !marks(reader, &[Mark::Space]) {

@@ -1,9 +1,90 @@
 // A written operation as it is handed in.
 ghost use Rattle.std.specs.Prelude.{◌≡◌};
-ghost use Rattle.lines.specs.Raw.{in_range, raw_operand, raw_sources, raw_operation, operand_held, literals_held};
+ghost use Rattle.lines.specs.Raw.{in_range, handed, raw_general, raw_predicate, raw_register, raw_destinations, raw_exit, raw_operand, raw_sources, raw_operation, operand_held, literals_held};
 
-use crate::written::{WrittenOperand, WrittenOperation, WrittenSources};
+use crate::written::{
+    WrittenExit, WrittenGeneral, WrittenOperand, WrittenOperation, WrittenPredicate,
+    WrittenRegister, WrittenSources,
+};
+use blocks::RawExit;
 use operations::{Operand, RawOperation, UpToTwo};
+use registers::{GeneralName, PredicateName, RegisterName};
+
+// What stands for every number above: no register and no block has it.
+const MISSING: u8 = 255;
+
+// The number of a register or a block as it is handed in.
+fn handed(number: u64) -> u8
+    ensures { result ≡ handed number }
+{
+    if number < MISSING as u64 {
+        number as u8
+    } else {
+        MISSING
+    }
+}
+
+impl WrittenGeneral {
+    fn raw(self) -> GeneralName
+        ensures { result ≡ raw_general self }
+    {
+        match self {
+            WrittenGeneral::Static(n) => GeneralName::Static(handed(n)),
+            WrittenGeneral::Rotating(n) => GeneralName::Rotating(handed(n)),
+        }
+    }
+}
+
+impl WrittenPredicate {
+    fn raw(self) -> PredicateName
+        ensures { result ≡ raw_predicate self }
+    {
+        match self {
+            WrittenPredicate::Static(n) => PredicateName::Static(handed(n)),
+            WrittenPredicate::Rotating(n) => PredicateName::Rotating(handed(n)),
+        }
+    }
+}
+
+impl WrittenRegister {
+    fn raw(self) -> RegisterName
+        ensures { result ≡ raw_register self }
+    {
+        match self {
+            WrittenRegister::General(g) => RegisterName::General(g.raw()),
+            WrittenRegister::Predicate(p) => RegisterName::Predicate(p.raw()),
+        }
+    }
+}
+
+// Destinations as they are handed in.
+fn destinations(written: UpToTwo<WrittenRegister>) -> UpToTwo<RegisterName>
+    ensures { result ≡ raw_destinations written }
+{
+    match written {
+        UpToTwo::Zero => UpToTwo::Zero,
+        UpToTwo::One(d) => UpToTwo::One(d.raw()),
+        UpToTwo::Two(d, e) => UpToTwo::Two(d.raw(), e.raw()),
+    }
+}
+
+impl WrittenExit {
+    // The exit as it is handed in.
+    pub fn raw(self) -> RawExit
+        ensures { result ≡ raw_exit self }
+    {
+        match self {
+            WrittenExit::Halt => RawExit::Halt,
+            WrittenExit::Next => RawExit::Next,
+            WrittenExit::Goto(target) => RawExit::Goto(handed(target)),
+            WrittenExit::If { predicate, target } => RawExit::If {
+                predicate: predicate.raw(),
+                target: handed(target),
+            },
+            WrittenExit::Loop(target) => RawExit::Loop(handed(target)),
+        }
+    }
+}
 
 // Whether 32 bits hold the signed number.
 fn held(z: i64) -> bool
@@ -27,7 +108,7 @@ impl WrittenOperand {
         ensures { result ≡ raw_operand self }
     {
         match self {
-            WrittenOperand::Register(name) => Operand::Register(name),
+            WrittenOperand::Register(name) => Operand::Register(name.raw()),
             WrittenOperand::Literal(z) => Operand::Literal(if held(z) { z as i32 } else { 0 }),
         }
     }
@@ -60,8 +141,8 @@ impl WrittenOperation {
     {
         RawOperation {
             opcode: self.opcode,
-            guard: self.guard,
-            destinations: self.destinations,
+            guard: self.guard.raw(),
+            destinations: destinations(self.destinations),
             sources: self.sources.raw(),
         }
     }

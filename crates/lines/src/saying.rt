@@ -3,12 +3,11 @@ ghost use Rattle.std.specs.Prelude.{◌≡◌};
 ghost use Rattle.lines.specs.Said.{name_said, predicate_said, number_said, operand_said, opcode_said, mark_said};
 
 use crate::mark::Mark;
-use crate::written::{Token, WrittenOperand};
+use crate::written::{Token, WrittenOperand, WrittenPredicate, WrittenRegister};
 use operations::Opcode;
-use registers::{PredicateName, RegisterName};
 
 impl Token {
-    pub(crate) fn name(self) -> Option<RegisterName>
+    pub(crate) fn name(self) -> Option<WrittenRegister>
         ensures { result ≡ name_said self }
     {
         match self {
@@ -17,11 +16,11 @@ impl Token {
         }
     }
 
-    pub(crate) fn predicate(self) -> Option<PredicateName>
+    pub(crate) fn predicate(self) -> Option<WrittenPredicate>
         ensures { result ≡ predicate_said self }
     {
         match self {
-            Token::Register(RegisterName::Predicate(name)) => Some(name),
+            Token::Register(WrittenRegister::Predicate(name)) => Some(name),
             _ => None,
         }
     }

@@ -1,12 +1,42 @@
 // Lines as they are written: any numbers of up to ten digits, any registers as operands of any opcode.
 use crate::mark::Mark;
-use blocks::RawExit;
 use operations::{Opcode, UpToTwo};
-use registers::{PredicateName, RegisterName};
+
+// A register with any number, of which there may be none.
+#[derive(Clone, Copy)]
+pub enum WrittenGeneral {
+    Static(u64),
+    Rotating(u64),
+}
+
+#[derive(Clone, Copy)]
+pub enum WrittenPredicate {
+    Static(u64),
+    Rotating(u64),
+}
+
+#[derive(Clone, Copy)]
+pub enum WrittenRegister {
+    General(WrittenGeneral),
+    Predicate(WrittenPredicate),
+}
+
+// An exit to any block, of which there may be none.
+#[derive(Clone, Copy)]
+pub enum WrittenExit {
+    Halt,
+    Next,
+    Goto(u64),
+    If {
+        predicate: WrittenPredicate,
+        target: u64,
+    },
+    Loop(u64),
+}
 
 #[derive(Clone, Copy)]
 pub enum WrittenOperand {
-    Register(RegisterName),
+    Register(WrittenRegister),
     Literal(i64),
 }
 
@@ -20,8 +50,8 @@ pub enum WrittenSources {
 pub struct WrittenOperation {
     pub opcode: Opcode,
     // p1 where none is written.
-    pub guard: PredicateName,
-    pub destinations: UpToTwo<RegisterName>,
+    pub guard: WrittenPredicate,
+    pub destinations: UpToTwo<WrittenRegister>,
     pub sources: WrittenSources,
 }
 
@@ -38,7 +68,7 @@ pub enum ProgramLine {
         position: Option<WrittenPosition>,
         operation: WrittenOperation,
     },
-    Exit(RawExit),
+    Exit(WrittenExit),
 }
 
 #[derive(Clone, Copy)]
@@ -65,7 +95,7 @@ pub enum DescriptionLine {
 // What an item of a line says.
 #[derive(Clone, Copy)]
 pub enum Token {
-    Register(RegisterName),
+    Register(WrittenRegister),
     Literal(i64),
     Opcode(Opcode),
     Mark(Mark),

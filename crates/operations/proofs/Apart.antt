@@ -1,5 +1,5 @@
 -- The destinations of a compare, where they are not one place. Assumes nothing.
-use Rattle.std.proofs.Common.{◌≡◌, Bool, true, false, Some, None, Option, refl, ap, rules}
+use Rattle.std.proofs.Common.{◌≡◌, Bool, true, false, Some, Option, refl, ap, rules}
 use mathlib.Core.Bool.{Bool-set}
 use Rattle.opcodes.specs.declared.compare.Action.{Action}
 use Rattle.registers.specs.declared.register.Predicate.{Predicate}

@@ -1,6 +1,6 @@
 -- What is handed in is accepted as an operation if and only if it is that operation with its registers by name.
 -- Assumes nothing.
-use Rattle.std.proofs.Common.{◌≡◌, ℕ, ◌<◌, Bool, true, false, cond, ◌&&◌, ltb, ◌↔◌, is_some, Some, None, Ok, Err, Option, Result, sym, refl, ap, ◌∙◌, subst, ap₂, arith, lt-ltb}
+use Rattle.std.proofs.Common.{◌≡◌, ℕ, Bool, true, false, cond, ltb, Some, None, Ok, Err, Option, Result, sym, refl, ap, ◌∙◌, ap₂, arith, lt-ltb}
 use Rattle.std.specs.Option.{option_map, option_zip, option_flatten}
 use Rattle.registers.proofs.Numbered.{number_there}
 use Rattle.registers.specs.declared.number.RegisterNumber.{RegisterNumber}

@@ -1,13 +1,11 @@
 -- What an operation does under guard 0. Assumes nothing.
-use Rattle.std.proofs.Common.{◌≡◌, ℕ, Bool, true, false, cond, None, Option, refl, ap, ◌∙◌}
+use Rattle.std.proofs.Common.{◌≡◌, ℕ, Bool, false, cond, None, refl, ap, ◌∙◌}
 use Rattle.std.specs.Option.{option_map, option_flatten}
 use Rattle.opcodes.specs.Compares.{holds, written}
 use Rattle.opcodes.specs.declared.compare.Action.{Action}
 use Rattle.opcodes.specs.declared.compare.Action.TheVariants.{Un, Uc, Cn, Cc, On, Oc, An, Ac}
 use Rattle.registers.specs.declared.register.Predicate.{Predicate}
-use Rattle.registers.specs.declared.write.Write.{Write}
 use Rattle.registers.specs.Writes.{bit_write}
-use Rattle.operations.specs.declared.effect.Effect.{Effect}
 use Rattle.operations.specs.declared.effect.Effect.TheVariants as effect
 use Rattle.operations.specs.declared.operation.Form.{Form}
 use Rattle.operations.specs.declared.operation.Form.TheVariants.{Binary, Unary, Compare, Load, Store}

@@ -1,5 +1,5 @@
 -- What an operation does with the values that it has read. Assumes nothing.
-use Rattle.std.specs.Prelude.{ℕ, Bool, true, false, cond, Some, None, Option}
+use Rattle.std.specs.Prelude.{ℕ, Bool, true, false, cond, None, Option}
 use Rattle.std.specs.Option.{option_map, option_flatten}
 use Rattle.opcodes.specs.Words.{binary_result, unary_result}
 use Rattle.opcodes.specs.Compares.{holds, written}

@@ -1,5 +1,5 @@
 -- An operation as it is handed in. Assumes nothing.
-use Rattle.std.specs.Prelude.{◌≡◌, ◌↔◌, Ok, Err, Result}
+use Rattle.std.specs.Prelude.{◌≡◌, ◌↔◌, Ok, Result}
 use Rattle.registers.specs.declared.register.General as general
 use Rattle.registers.specs.declared.register.General.{General}
 use Rattle.registers.specs.declared.register.Predicate as predicate

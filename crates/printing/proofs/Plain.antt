@@ -16,18 +16,18 @@ use Rattle.opcodes.specs.declared.compare.Condition.TheVariants.{Never, Equal, L
 use Rattle.opcodes.specs.declared.compare.Action.{Action}
 use Rattle.opcodes.specs.declared.compare.Action.TheVariants.{Un, Uc, Cn, Cc, On, Oc, An, Ac}
 use Rattle.opcodes.specs.Texts.{binary_text, unary_text, condition_text, action_text}
-use Rattle.registers.specs.declared.names.GeneralName.{GeneralName}
-use Rattle.registers.specs.declared.names.GeneralName.TheVariants as general_name
-use Rattle.registers.specs.declared.names.PredicateName.{PredicateName}
-use Rattle.registers.specs.declared.names.PredicateName.TheVariants as predicate_name
-use Rattle.registers.specs.declared.names.RegisterName.{RegisterName}
-use Rattle.registers.specs.declared.names.RegisterName.TheVariants as name
+use Rattle.lines.specs.declared.written.WrittenGeneral.{WrittenGeneral}
+use Rattle.lines.specs.declared.written.WrittenGeneral.TheVariants as general_name
+use Rattle.lines.specs.declared.written.WrittenPredicate.{WrittenPredicate}
+use Rattle.lines.specs.declared.written.WrittenPredicate.TheVariants as predicate_name
+use Rattle.lines.specs.declared.written.WrittenRegister.{WrittenRegister}
+use Rattle.lines.specs.declared.written.WrittenRegister.TheVariants as name
 use Rattle.operations.specs.declared.raw.Opcode.{Opcode}
 use Rattle.operations.specs.declared.raw.Opcode.TheVariants as opcode
 use Rattle.operations.specs.declared.raw.UpToTwo.{UpToTwo}
 use Rattle.operations.specs.declared.raw.UpToTwo.TheVariants as up_to
-use Rattle.blocks.specs.declared.exit.RawExit.{RawExit}
-use Rattle.blocks.specs.declared.exit.RawExit.TheVariants.{Halt, Next, Goto, If, Loop}
+use Rattle.lines.specs.declared.written.WrittenExit.{WrittenExit}
+use Rattle.lines.specs.declared.written.WrittenExit.TheVariants.{Halt, Next, Goto, If, Loop}
 use Rattle.lines.specs.declared.written.WrittenOperand.{WrittenOperand}
 use Rattle.lines.specs.declared.written.WrittenOperand.TheVariants.{Register, Literal}
 use Rattle.lines.specs.declared.written.WrittenSources.{WrittenSources}
@@ -126,15 +126,15 @@ plain_opcode (opcode.Compare c a b) = plain_append (condition_text c) _ (plain_c
 plain_opcode opcode.Load = refl
 plain_opcode opcode.Store = refl
 
-plain_general : (g : GeneralName) → Short (general_number g) → plain (general_name_text g) ≡ true
+plain_general : (g : WrittenGeneral) → Short (general_number g) → plain (general_name_text g) ≡ true
 plain_general (general_name.Static n) h = plain_decimal n h
 plain_general (general_name.Rotating n) h = plain_decimal n h
 
-plain_predicate : (p : PredicateName) → Short (predicate_number p) → plain (predicate_name_text p) ≡ true
+plain_predicate : (p : WrittenPredicate) → Short (predicate_number p) → plain (predicate_name_text p) ≡ true
 plain_predicate (predicate_name.Static n) h = plain_decimal n h
 plain_predicate (predicate_name.Rotating n) h = plain_decimal n h
 
-plain_name : (x : RegisterName) → ShortName x → plain (name_text x) ≡ true
+plain_name : (x : WrittenRegister) → ShortName x → plain (name_text x) ≡ true
 plain_name (name.General g) h = plain_general g h
 plain_name (name.Predicate p) h = plain_predicate p h
 
@@ -146,12 +146,12 @@ plain_sources : (s : WrittenSources) (rest : List ℕ) → ShortSources s → pl
 plain_sources (One a) rest h r = plain_append (operand_text a) rest (plain_operand a h) r
 plain_sources (Two a b) rest h r = plain_append (operand_text a) _ (plain_operand a h.0) (plain_append (operand_text b) rest (plain_operand b h.1) r)
 
-plain_destinations : (d : UpToTwo RegisterName) (rest : List ℕ) → ShortDestinations d → plain rest ≡ true → plain (destinations_text d rest) ≡ true
+plain_destinations : (d : UpToTwo WrittenRegister) (rest : List ℕ) → ShortDestinations d → plain rest ≡ true → plain (destinations_text d rest) ≡ true
 plain_destinations up_to.Zero rest h r = r
 plain_destinations (up_to.One d) rest h r = plain_append (name_text d) _ (plain_name d h) r
 plain_destinations (up_to.Two d e) rest h r = plain_append (name_text d) _ (plain_name d h.0) (plain_append (name_text e) _ (plain_name e h.1) r)
 
-plain_guard : (p : PredicateName) → Short (predicate_number p) → plain (guard_text p) ≡ true
+plain_guard : (p : WrittenPredicate) → Short (predicate_number p) → plain (guard_text p) ≡ true
 plain_guard (predicate_name.Static n) h = by (eqb n 1)
   where
     by : (t : Bool) → plain (cond t [] (codes " if " ++ predicate_name_text (predicate_name.Static n))) ≡ true
@@ -168,7 +168,7 @@ plain_position : (p : Option WrittenPosition) (rest : List ℕ) → ShortPositio
 plain_position None rest h r = r
 plain_position (Some p) rest h r = plain_append (decimal p.cycle) _ (plain_decimal p.cycle h.0) (plain_append (decimal p.slot) _ (plain_decimal p.slot h.1) r)
 
-plain_exit : (x : RawExit) → ShortExit x → plain (exit_text x) ≡ true
+plain_exit : (x : WrittenExit) → ShortExit x → plain (exit_text x) ≡ true
 plain_exit Halt h = refl
 plain_exit Next h = refl
 plain_exit (Goto t) h = plain_decimal t h

@@ -1,5 +1,5 @@
 -- The tests of equality tell equality. Assumes nothing.
-use Rattle.std.proofs.Common.{◌≡◌, ℕ, Bool, true, false, refl, ap, arith, eq-eqb, eqb-true}
+use Rattle.std.proofs.Common.{◌≡◌, ℕ, true, false, refl, ap, arith, eq-eqb, eqb-true}
 use Rattle.registers.specs.declared.register.General as general
 use Rattle.registers.specs.declared.register.General.{General}
 use Rattle.registers.specs.declared.register.Predicate as predicate

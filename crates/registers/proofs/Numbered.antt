@@ -1,5 +1,5 @@
 -- Register numbers are equal where their numbers are. Assumes nothing.
-use Rattle.std.proofs.Common.{◌≡◌, ℕ, ◌<◌, Bool, true, false, ltb, Some, None, Option, sym, refl, ap, ◌∙◌, subst, arith, rules, ltb-true}
+use Rattle.std.proofs.Common.{◌≡◌, ℕ, ◌<◌, Bool, true, false, ltb, Some, Option, refl, ap, subst, rules, ltb-true}
 use native.Mathlib.Bridge.{le_prop}
 use Rattle.registers.specs.declared.number.RegisterNumber.{RegisterNumber}
 use Rattle.registers.specs.Registers.{numbered, below}

@@ -1,5 +1,5 @@
 -- Registers: their numbers, what the fixed ones read, which are places, and where the rotating ones are. Assumes nothing.
-use Rattle.std.specs.Prelude.{◌≡◌, ℕ, ◌+◌, ◌%◌, ◌<◌, Bool, true, false, cond, ◌&&◌, is_some, Some, None, Decides, Option, ◌==◌, nat_lt, refl}
+use Rattle.std.specs.Prelude.{◌≡◌, ℕ, ◌+◌, ◌%◌, Bool, true, false, cond, ◌&&◌, is_some, Some, None, Decides, Option, ◌==◌, nat_lt, refl}
 use Rattle.std.proofs.Common.{arith, ltb-true}
 use Rattle.registers.specs.declared.number.RegisterNumber.{RegisterNumber}
 use Rattle.registers.specs.declared.register.General as general

@@ -1,6 +1,5 @@
 -- That the assumptions can be met. Assumes nothing.
 use Rattle.std.proofs.Common.{◌≡◌, ℕ, zero, suc, ◌≤◌, Bool, true, false, cond, ◌&&◌, ◌||◌, ltb, List, [], ◌∷◌, ◌++◌, refl, ap, ◌∙◌, arith}
-use Rattle.registers.specs.declared.register.Register.{Register}
 use Rattle.registers.specs.declared.register.Place.TheVariants as place
 use Rattle.histories.specs.Examples.{serial}
 use Rattle.histories.proofs.Serial.{serial_is_kept_lem}

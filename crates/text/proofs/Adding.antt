@@ -26,14 +26,14 @@ operation_is s n q w raw o h there is added held =
     ∙ ap (λ p. then_placed n q (literals_held w.sources) p) (ap (add_call s n) (sym is) ∙ added)
     ∙ ap (λ b. then_placed n q b o) (sym held)
 
-pub not-added :
+pub not_added :
     (s t : State) (n : ℕ) (q : Option WrittenPosition) (w : WrittenOperation) (raw : RawOperation) (r : Result ℕ Refusal) (e : Refusal)
     → true ≡ slot_there s q
     → raw ≡ raw_operation w
     → Did s t r (add_call s n raw)
     → r ≡ Err e
     → operation_call s n q w ≡ Err e
-not-added s t n q w raw r e there is did at = operation_is s n q w raw (Err e) (literals_held w.sources) there is (told_err s t r (add_call s n raw) e did at) refl
+not_added s t n q w raw r e there is did at = operation_is s n q w raw (Err e) (literals_held w.sources) there is (told_err s t r (add_call s n raw) e did at) refl
 
 pub too_large :
     (s t : State) (n : ℕ) (q : Option WrittenPosition) (w : WrittenOperation) (raw : RawOperation) (r : Result ℕ Refusal) (i : ℕ)
@@ -45,7 +45,7 @@ pub too_large :
     → operation_call s n q w ≡ Err BeyondLimit
 too_large s t n q w raw r i there is did at held = operation_is s n q w raw (Ok (i, t)) false there is (told_ok s t r (add_call s n raw) i did at) held
 
-pub then-told :
+pub then_told :
     (s t u : State) (n : ℕ) (q : Option WrittenPosition) (w : WrittenOperation) (raw : RawOperation) (r : Result ℕ Refusal) (i : ℕ) (a : Result (Unit {0}) Refusal)
     → true ≡ slot_there s q
     → raw ≡ raw_operation w
@@ -54,7 +54,7 @@ pub then-told :
     → true ≡ literals_held w.sources
     → MatchResult a (λ _. placed_at t n i q ≡ Ok (tt, u)) (λ e. placed_at t n i q ≡ Err e)
     → MatchResult a (λ _. operation_call s n q w ≡ Ok (tt, u)) (λ e. operation_call s n q w ≡ Err e)
-then-told s t u n q w raw r i a there is did at held =
+then_told s t u n q w raw r i a there is did at held =
     let P : Outcome (Unit {0}) State → Type 0 = λ o. MatchResult a (λ _. o ≡ Ok (tt, u)) (λ e. o ≡ Err e) in
     subst P (sym (operation_is s n q w raw (Ok (i, t)) true there is (told_ok s t r (add_call s n raw) i did at) held))
 

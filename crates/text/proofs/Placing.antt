@@ -50,7 +50,7 @@ place_same s n i c c' k k' c-same c-beyond k-same k-beyond =
     let step = by_cycle ss b i c c' k' (ltb c 1024) refl c-same c-beyond ∙ by_slot ss b i c k k' (ltb k 8) (few_slots s.description.slots) refl k-same k-beyond in
     ap (λ o. cond (ltb n 16) (put_back s n o) (Err NoSuch)) step
 
-pub placed-told :
+pub placed_told :
     (s t : State) (n i : ℕ) (q : Option WrittenPosition) (p : WrittenPosition) (c' k' : ℕ) (r : Result (Unit {0}) Refusal)
     → q ≡ Some p
     → (p.cycle < 1024 → c' ≡ p.cycle)
@@ -59,7 +59,7 @@ pub placed-told :
     → (8 ≤ p.slot → 8 ≤ k')
     → Did s t r (place_call s n i c' k')
     → MatchResult r (λ _. placed_at s n i q ≡ Ok (tt, t)) (λ e. placed_at s n i q ≡ Err e)
-placed-told s t n i q p c' k' r is c-same c-beyond k-same k-beyond did =
+placed_told s t n i q p c' k' r is c-same c-beyond k-same k-beyond did =
     let e = place_same s n i p.cycle c' p.slot k' c-same c-beyond k-same k-beyond ∙ sym (ap (placed_at s n i) is) in
     let P : Outcome (Unit {0}) State → Type 0 = λ o. MatchResult r (λ _. o ≡ Ok (tt, t)) (λ e. o ≡ Err e) in
     subst P e (told s t r (place_call s n i c' k') did)

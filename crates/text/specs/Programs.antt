@@ -3,7 +3,7 @@ use Rattle.std.specs.Prelude.{ℕ, Bool, true, cond, length, Some, None, Ok, Err
 use Rattle.operations.specs.declared.refusal.Refusal.{Refusal}
 use Rattle.operations.specs.declared.refusal.Refusal.TheVariants.{Unreadable, NoSuch, BeyondLimit}
 use Rattle.blocks.specs.declared.description.Description.{Description}
-use Rattle.blocks.specs.declared.exit.RawExit.{RawExit}
+use Rattle.lines.specs.declared.written.WrittenExit.{WrittenExit}
 use Rattle.blocks.specs.Machine.{slots_of}
 use Rattle.blocks.specs.Steps.{Outcome}
 use Rattle.blocks.specs.Calls.{State, fresh, add_call, place_call, exit_call}
@@ -62,7 +62,7 @@ in_open (Ended b) f = Err Unreadable
 abbrev pub operation_line : Reading → Option WrittenPosition → WrittenOperation → Result Reading Refusal
 operation_line r p w = in_open r.stage (λ b. at_stage (Open b) (operation_call r.state b p w))
 
-abbrev pub exit_line : Reading → RawExit → Result Reading Refusal
+abbrev pub exit_line : Reading → WrittenExit → Result Reading Refusal
 exit_line r x = in_open r.stage (λ b. at_stage (Ended b) (exit_call r.state b x))
 
 abbrev pub program_step : Reading → ProgramLine → Result Reading Refusal

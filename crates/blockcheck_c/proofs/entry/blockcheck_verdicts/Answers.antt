@@ -18,13 +18,13 @@ returns-in_default-numbers c = wanting _ _ c.args.room.now c.load.result.loaded 
 pub returns-then-room-len : goal.returns-then-room-len
 returns-then-room-len c =
     too_short _ _ c.args.room.now c.load.result.loaded _ c.in-Ok.blocks (vec_items c.in-Ok-verdicts.all) (vec_items c.in-Ok-numbers.numbers) _ c.load.ensures c.in-Ok.is (subst (λ b. Told (state_of b) (vec_items c.in-Ok-verdicts.all)) c.in-Ok.blocks-is c.in-Ok-verdicts.ensures)
-    (c.in-Ok-numbers.ensures ∙ ap numbers_of c.as-slice.ensures.value)
+    (c.in-Ok-numbers.ensures ∙ ap numbers_of c.as_slice.ensures.value)
     (omega (arith, c.in-Ok-numbers.numbers.ok.0, c.len.ensures))
     (c.from.ensures ∙ c.number-then-room-len.ensures)
 
 pub returns : goal.returns
 returns c =
     all_told _ _ c.args.room.now c.load.result.loaded _ c.in-Ok.blocks (vec_items c.in-Ok-verdicts.all) (vec_items c.in-Ok-numbers.numbers) _ c.load.ensures c.in-Ok.is (subst (λ b. Told (state_of b) (vec_items c.in-Ok-verdicts.all)) c.in-Ok.blocks-is c.in-Ok-verdicts.ensures)
-    (c.in-Ok-numbers.ensures ∙ ap numbers_of c.as-slice.ensures.value)
+    (c.in-Ok-numbers.ensures ∙ ap numbers_of c.as_slice.ensures.value)
     (omega (arith, c.in-Ok-numbers.numbers.ok.0, c.len.ensures, c.if-room-len.false))
-    (c.copy.ensures ∙ ap (λ n. at_front n c.args.room.now) c.as-slice-2.ensures.value)
+    (c.copy.ensures ∙ ap (λ n. at_front n c.args.room.now) c.as_slice-2.ensures.value)

@@ -1,4 +1,4 @@
-use Rattle.std.proofs.Common.{◌≡◌, map, drop, set}
+use Rattle.std.proofs.Common.{◌≡◌, drop}
 use Rattle.blocks.specs.Entries.{any_at, occupied}
 use Rattle.blocks.proofs.Positions.{others}
 use Rattle.blocks.proofs.filling.occupied.Given as goal

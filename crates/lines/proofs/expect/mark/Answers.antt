@@ -5,4 +5,4 @@ pub returns-in_default : goal.returns-in_default
 returns-in_default c = mark_none c.args.expected _ _ c.in_default.ensures
 
 pub returns : goal.returns
-returns c = mark_some c.args.expected _ _ _ _ c.is-mark.ensures c.in-Some.ensures
+returns c = mark_some c.args.expected _ _ _ _ c.is_mark.ensures c.in-Some.ensures

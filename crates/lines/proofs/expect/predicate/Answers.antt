@@ -1,5 +1,5 @@
 use Rattle.std.proofs.Common.{refl}
-use Rattle.registers.specs.declared.names.RegisterName.TheVariants as name
+use Rattle.lines.specs.declared.written.WrittenRegister.TheVariants as name
 use Rattle.lines.specs.declared.written.Token.TheVariants as token
 use Rattle.lines.specs.Said.{predicate_said}
 use Rattle.lines.proofs.Sayings.{none_said, some_said, predicate_back}

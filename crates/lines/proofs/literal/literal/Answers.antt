@@ -5,8 +5,8 @@ use Rattle.lines.specs.Tokens.{TokenAt}
 use Rattle.lines.proofs.LiteralTexts.{negative, negative_at}
 use Rattle.lines.proofs.literal.literal.Goals as goal
 
-pub returns-then-n-lt-LEAST-NEGATED : goal.returns-then-n-lt-LEAST-NEGATED
-returns-then-n-lt-LEAST-NEGATED c = record {
+pub returns-then-n-lt-LEAST_NEGATED : goal.returns-then-n-lt-LEAST_NEGATED
+returns-then-n-lt-LEAST_NEGATED c = record {
   sound = tt;
   complete = λ z rest h. omega (arith, (negative _ _ _ z rest c.in-Some.ensures.sound h).0);
 }

@@ -10,12 +10,12 @@ returns-in_default-begins c = record {
   complete = λ o rest h. nothing (worded opcode_text opcodes c.args.text.now) o rest c.in_default-begins.ensures (tabled _ o rest c.in_default.ensures h);
 }
 
-pub returns-in_default-after-word : goal.returns-in_default-after-word
-returns-in_default-after-word c = record {
+pub returns-in_default-after_word : goal.returns-in_default-after_word
+returns-in_default-after_word c = record {
   sound = tt;
   complete = λ o rest h.
       let e = the_same (worded opcode_text opcodes c.args.text.now) _ o _ rest c.in-Some-begins.ensures (tabled _ o rest c.in_default.ensures h) in
-      c.in_default-after-word.ensures h.ends.0 (e.1 ∙ h.ends.1);
+      c.in_default-after_word.ensures h.ends.0 (e.1 ∙ h.ends.1);
 }
 
 pub returns : goal.returns
@@ -23,7 +23,7 @@ returns c = record {
   sound = record {
     short = tt;
     whole = worded_sound opcode_text opcodes _ _ _ c.in-Some-begins.ensures;
-    ends = (c.in-Some-after-word.field-0.now, c.in-Some-after-word.ensures);
+    ends = (c.in-Some-after_word.field-0.now, c.in-Some-after_word.ensures);
   };
   complete = λ o rest h. the_same (worded opcode_text opcodes c.args.text.now) _ o _ rest c.in-Some-begins.ensures (tabled _ o rest c.in_default.ensures h);
 }

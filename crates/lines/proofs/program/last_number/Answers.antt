@@ -6,5 +6,5 @@ use Rattle.lines.proofs.program.last_number.Goals as goal
 pub returns-in_default : goal.returns-in_default
 returns-in_default c = record { sound = tt; complete = λ n short e. absurd (none_some n (number_read _ _ _ c.in_default.ensures n short e).0) }
 
-pub returns-else-is-done : goal.returns-else-is-done
-returns-else-is-done c = record { sound = tt; complete = λ n short e. absurd (false≢true (c.if-is-done.ensures.1 (number_read _ _ _ c.in-Some.ensures n short e).1)) }
+pub returns-else-is_done : goal.returns-else-is_done
+returns-else-is_done c = record { sound = tt; complete = λ n short e. absurd (false≢true (c.if-is_done.ensures.1 (number_read _ _ _ c.in-Some.ensures n short e).1)) }

@@ -16,8 +16,8 @@ returns-in-Some-target c = line_block _ _ (subst (λ m. Says token.Mark (left c.
 pub returns-in-None : goal.returns-in-None
 returns-in-None c = line_no_block _ _ (subst (λ m. Says token.Mark (left c.args.reader.now) (Some m) (left c.word.new.reader)) c.in-Block.is c.in-Some.ensures) c.in-None.ensures
 
-pub returns-in-Some-exit-line : goal.returns-in-Some-exit-line
-returns-in-Some-exit-line c = line_exit _ _ (subst (λ m. Says token.Mark (left c.args.reader.now) (Some m) (left c.word.new.reader)) c.in-Exit.is c.in-Some.ensures) _ c.in-Some-exit-line.ensures
+pub returns-in-Some-exit_line : goal.returns-in-Some-exit_line
+returns-in-Some-exit_line c = line_exit _ _ (subst (λ m. Says token.Mark (left c.args.reader.now) (Some m) (left c.word.new.reader)) c.in-Exit.is c.in-Some.ensures) _ c.in-Some-exit_line.ensures
 
-pub returns-in-None-exit-line : goal.returns-in-None-exit-line
-returns-in-None-exit-line c = line_no_exit _ _ (subst (λ m. Says token.Mark (left c.args.reader.now) (Some m) (left c.word.new.reader)) c.in-Exit.is c.in-Some.ensures) c.in-None-exit-line.ensures
+pub returns-in-None-exit_line : goal.returns-in-None-exit_line
+returns-in-None-exit_line c = line_no_exit _ _ (subst (λ m. Says token.Mark (left c.args.reader.now) (Some m) (left c.word.new.reader)) c.in-Exit.is c.in-Some.ensures) c.in-None-exit_line.ensures

@@ -7,8 +7,8 @@ use Rattle.printing.proofs.writing.write_block.Goals as goal
 
 pub returns : goal.returns
 returns c =
-    let k = c.in_ok-write-entries.ensures in (
+    let k = c.in_ok-write_entries.ensures in (
       printed_three line_ended (line.Block c.args.block) (map entry_line c.args.entries.now) (line.Exit (written_exit c.args.exit)) _ _ _ _
-          c.in_ok-write-head.ensures k.0 c.in_ok-write-exit.ensures,
+          c.in_ok-write_head.ensures k.0 c.in_ok-write_exit.ensures,
       k.1,
     )

@@ -7,7 +7,7 @@ use Rattle.printing.proofs.writing.write_entries.Goals as goal
 
 pub loop-placed-preserved : goal.loop-placed-preserved
 loop-placed-preserved c =
-    let k = c.in_ok-write-entry.ensures in
+    let k = c.in_ok-write_entry.ensures in
     printed_more (λ e. line_ended (entry_line e)) Held _ _ _ c.args.entries.now c.loop-placed.placed-index c.placed-item.result (omega arith) c.placed-item.is c.loop-placed.invariant k.0 k.1
 
 pub returns : goal.returns

@@ -6,7 +6,7 @@ pub returns-in-Some : goal.returns-in-Some
 returns-in-Some c =
     let read = c.described-read in
     let taken = description_read c.args.description.now read.result.0 read.result.1.now c.in-Ok.part read.ensures c.in-Ok.is in
-    described_answered _ _ _ c.load-program.result.loaded _ c.if-description-gt-LIMIT.false c.if-program-gt-LIMIT.false (record { read = described_of c.in-Ok.part; lines = taken; whole = c.in-Some.ensures }) c.load-program.ensures
+    described_answered _ _ _ c.load_program.result.loaded _ c.if-description-gt-LIMIT.false c.if-program-gt-LIMIT.false (record { read = described_of c.in-Ok.part; lines = taken; whole = c.in-Some.ensures }) c.load_program.ensures
 
 pub returns-in-None : goal.returns-in-None
 returns-in-None c =

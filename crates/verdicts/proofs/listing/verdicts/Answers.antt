@@ -9,10 +9,10 @@ pub loop-block-preserved : goal.loop-block-preserved
 loop-block-preserved c =
     let s = state_of c.args.blocks.now in
     subst (λ vs. ToldBelow s (c.loop-block.block + 1) vs) (sym c.in_ok-push.ensures.items)
-    (below_more s c.loop-block.block _ _ (omega arith) (sixteen c.args.blocks.now) (sym c.if-not-is-filled.ensures) (subst (λ a. Checked s c.loop-block.block a) c.in-Some.ensures.sound c.check.ensures) c.loop-block.invariant)
+    (below_more s c.loop-block.block _ _ (omega arith) (sixteen c.args.blocks.now) (sym c.if-not-is_filled.ensures) (subst (λ a. Checked s c.loop-block.block a) c.in-Some.ensures.sound c.check.ensures) c.loop-block.invariant)
 
-pub loop-block-preserved-then-not-is-filled : goal.loop-block-preserved-then-not-is-filled
-loop-block-preserved-then-not-is-filled c = below_skip (state_of c.args.blocks.now) c.loop-block.block _ (omega arith) (sixteen c.args.blocks.now) (sym c.if-not-is-filled.ensures) c.loop-block.invariant
+pub loop-block-preserved-then-not-is_filled : goal.loop-block-preserved-then-not-is_filled
+loop-block-preserved-then-not-is_filled c = below_skip (state_of c.args.blocks.now) c.loop-block.block _ (omega arith) (sixteen c.args.blocks.now) (sym c.if-not-is_filled.ensures) c.loop-block.invariant
 
 pub loop-block-preserved-in_default : goal.loop-block-preserved-in_default
 loop-block-preserved-in_default c =

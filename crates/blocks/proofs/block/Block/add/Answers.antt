@@ -1,6 +1,5 @@
-use Rattle.std.proofs.Common.{◌≡◌, ◌<◌, ◌≤◌, leb, length, Err, sym, ap, ◌∙◌, arith, rules}
-use Rattle.blocks.specs.Steps.{Did}
-use Rattle.blocks.specs.Model.{with_entries, topmost, add_step}
+use Rattle.std.proofs.Common.{◌<◌, ◌≤◌, leb, length, Err, sym, ap, ◌∙◌, arith, rules}
+use Rattle.blocks.specs.Model.{with_entries, topmost}
 use Rattle.blocks.specs.View.{body_of}
 use Rattle.blocks.proofs.Moves.{refused, done, add_full, add_done, add_refused}
 use Rattle.blocks.proofs.Positions.{apart_push}

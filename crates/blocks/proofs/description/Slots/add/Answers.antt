@@ -1,4 +1,4 @@
-use Rattle.std.proofs.Common.{◌≡◌, ◌<◌, cond, [], ◌∷◌, ◌++◌, length, Ok, Err, refl, ap, arith, lt-ltb}
+use Rattle.std.proofs.Common.{◌<◌, cond, [], ◌∷◌, ◌++◌, length, Ok, Err, refl, ap, arith, lt-ltb}
 use Rattle.std.proofs.lemmas.List.{take_more_set}
 use Rattle.operations.specs.declared.refusal.Refusal.TheVariants.{NoSuch}
 use Rattle.blocks.specs.Machine.{slots_of}

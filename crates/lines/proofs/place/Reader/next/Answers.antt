@@ -16,7 +16,9 @@ pub overflow_sub-taken : goal.overflow_sub-taken
 overflow_sub-taken c = taken_length _ (token_text c.in-Some.token) _ c.in-Some.ensures.sound.whole
 
 pub invariant_of-self : goal.invariant_of-self
-invariant_of-self c = (omega (arith, ap length c.rest-text.ensures, length-drop c.args.self.now.at c.args.self.now.line.now, c.args.self.now.within), tt)
+invariant_of-self c = record {
+  within = omega (arith, ap length c.rest-text.ensures, length-drop c.args.self.now.at c.args.self.now.line.now, c.args.self.now.within);
+}
 
 pub returns : goal.returns
 returns c =
