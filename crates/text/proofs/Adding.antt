@@ -9,7 +9,8 @@ use Rattle.blocks.specs.declared.exit.RawExit.{RawExit}
 use Rattle.blocks.specs.Calls.{State, add_call, exit_call}
 use Rattle.lines.specs.declared.written.WrittenPosition.{WrittenPosition}
 use Rattle.lines.specs.declared.written.WrittenOperation.{WrittenOperation}
-use Rattle.lines.specs.Raw.{raw_operation, literals_held}
+use Rattle.lines.specs.declared.written.WrittenExit.{WrittenExit}
+use Rattle.lines.specs.Raw.{raw_operation, raw_exit, literals_held}
 use Rattle.text.specs.declared.stage.Stage.TheVariants.{Open, Ended}
 use Rattle.text.specs.Programs.{Reading, slot_there, placed_at, then_placed, operation_call, at_stage, in_open, exit_line}
 use Rattle.text.proofs.Placing.{told}
@@ -58,7 +59,14 @@ then_told s t u n q w raw r i a there is did at held =
     let P : Outcome (Unit {0}) State → Type 0 = λ o. MatchResult a (λ _. o ≡ Ok (tt, u)) (λ e. o ≡ Err e) in
     subst P (sym (operation_is s n q w raw (Ok (i, t)) true there is (told_ok s t r (add_call s n raw) i did at) held))
 
-pub exit_refused : (v : Reading) (n : ℕ) (x : RawExit) (t : State) (r : Result (Unit {0}) Refusal) (e : Refusal) → v.stage ≡ Open n → Did v.state t r (exit_call v.state n x) → r ≡ Err e → exit_line v x ≡ Err e
-exit_refused v n x t r e here did at =
-    ap (λ g. in_open g (λ b. at_stage (Ended b) (exit_call v.state b x))) here
-    ∙ ap (at_stage (Ended n)) (told_err v.state t r (exit_call v.state n x) e did at)
+pub exit_refused :
+    (v : Reading) (n : ℕ) (x : WrittenExit) (raw : RawExit) (t : State) (r : Result (Unit {0}) Refusal) (e : Refusal)
+    → v.stage ≡ Open n
+    → raw ≡ raw_exit x
+    → Did v.state t r (exit_call v.state n raw)
+    → r ≡ Err e
+    → exit_line v x ≡ Err e
+exit_refused v n x raw t r e here is did at =
+    ap (λ g. in_open g (λ b. at_stage (Ended b) (exit_call v.state b (raw_exit x)))) here
+    ∙ ap (λ y. at_stage (Ended n) (exit_call v.state n y)) (sym is)
+    ∙ ap (at_stage (Ended n)) (told_err v.state t r (exit_call v.state n raw) e did at)

@@ -12,7 +12,7 @@ use Rattle.lines.specs.declared.written.WrittenOperation.{WrittenOperation}
 use Rattle.lines.specs.declared.written.ProgramLine as line
 use Rattle.lines.specs.declared.written.ProgramLine.{ProgramLine}
 use Rattle.lines.specs.Lines.{IsProgramLine}
-use Rattle.lines.specs.Raw.{raw_operation, literals_held}
+use Rattle.lines.specs.Raw.{raw_operation, raw_exit, literals_held}
 use Rattle.text.specs.declared.stage.Stage.{Stage}
 use Rattle.text.specs.declared.stage.Stage.TheVariants.{Start, Open, Ended}
 use Rattle.text.specs.Loads.{Programs}
@@ -71,7 +71,7 @@ step_kept r (line.TheVariants.Block n) =
     let new : Result Reading Refusal = Ok (record { state = r.state; stage = Open n }) in
     cond_read d (above r.stage n) (cond (ltb n 16) new (Err NoSuch)) Unreadable (cond_read d (ltb n 16) new NoSuch refl)
 step_kept r (line.TheVariants.Operation p w) = open_kept r.state.description r.stage _ (λ b. stage_kept r.state.description (Open b) _ (operation_kept r.state b p w))
-step_kept r (line.TheVariants.Exit x) = open_kept r.state.description r.stage _ (λ b. stage_kept r.state.description (Ended b) _ (in_kept r.state b (λ y. exit_step b y x)))
+step_kept r (line.TheVariants.Exit x) = open_kept r.state.description r.stage _ (λ b. stage_kept r.state.description (Ended b) _ (in_kept r.state b (λ y. exit_step b y (raw_exit x))))
 
 taken_kept : (d : Description) (s : Reading) (ls : List (List ℕ)) (o : Result Reading (Refusal × List ℕ)) → s.state.description ≡ d → Taken IsProgramLine program_step s ls o → ReadKept d o
 taken_kept d _ _ _ h (end s) = h

@@ -11,7 +11,7 @@ use Rattle.lines.specs.declared.written.WrittenPosition.{WrittenPosition}
 use Rattle.lines.specs.declared.written.WrittenOperation.{WrittenOperation}
 use Rattle.lines.specs.declared.written.ProgramLine as line
 use Rattle.lines.specs.declared.written.ProgramLine.{ProgramLine}
-use Rattle.lines.specs.Raw.{raw_operation, literals_held}
+use Rattle.lines.specs.Raw.{raw_operation, raw_exit, literals_held}
 use Rattle.text.specs.declared.stage.Stage.{Stage}
 use Rattle.text.specs.declared.stage.Stage.TheVariants.{Start, Open, Ended}
 
@@ -63,7 +63,7 @@ abbrev pub operation_line : Reading → Option WrittenPosition → WrittenOperat
 operation_line r p w = in_open r.stage (λ b. at_stage (Open b) (operation_call r.state b p w))
 
 abbrev pub exit_line : Reading → WrittenExit → Result Reading Refusal
-exit_line r x = in_open r.stage (λ b. at_stage (Ended b) (exit_call r.state b x))
+exit_line r x = in_open r.stage (λ b. at_stage (Ended b) (exit_call r.state b (raw_exit x)))
 
 abbrev pub program_step : Reading → ProgramLine → Result Reading Refusal
 program_step r (line.TheVariants.Block n) = block_line r n

@@ -6,8 +6,8 @@ ghost use Rattle.text.specs.Views.{reading_of};
 
 use crate::loading::Loading;
 use crate::stage::Stage;
-use blocks::{Blocks, RawExit};
-use lines::{ProgramLine, WrittenOperation, WrittenPosition};
+use blocks::Blocks;
+use lines::{ProgramLine, WrittenExit, WrittenOperation, WrittenPosition};
 use operations::Refusal;
 
 // How many cycles a block may have.
@@ -131,13 +131,13 @@ impl Loading {
         add(&mut self.blocks, block, position, operation)
     }
 
-    fn exit(&mut self, exit: RawExit) -> Result<(), Refusal>
+    fn exit(&mut self, exit: WrittenExit) -> Result<(), Refusal>
         ensures { MatchResult result (λ _. exit_line (reading_of self.old) exit ≡ Ok (reading_of self.new)) (λ e. exit_line (reading_of self.old) exit ≡ Err e) }
     {
         let Stage::Open(block) = self.stage else {
             return Err(Refusal::Unreadable);
         };
-        if let Err(refusal) = self.blocks.exit(block, exit) {
+        if let Err(refusal) = self.blocks.exit(block, exit.raw()) {
             return Err(refusal);
         }
         self.stage = Stage::Ended(block);
