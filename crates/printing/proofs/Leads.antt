@@ -18,7 +18,7 @@ use Rattle.blocks.proofs.Moves.{add_done}
 use Rattle.lines.specs.declared.written.WrittenPosition.{WrittenPosition}
 use Rattle.lines.specs.declared.written.ProgramLine.{ProgramLine}
 use Rattle.lines.specs.declared.written.ProgramLine.TheVariants as line
-use Rattle.lines.specs.Raw.{raw_operation, literals_held}
+use Rattle.lines.specs.Raw.{raw_operation, raw_exit, literals_held}
 use Rattle.lines.specs.Lines.{program_line_text, ShortProgram, IsProgramLine}
 use Rattle.text.specs.declared.stage.Stage.{Stage}
 use Rattle.text.specs.declared.stage.Stage.TheVariants.{Open, Ended}
@@ -116,7 +116,7 @@ module _ (s : State) (n : ℕ) (below : n < 16) (sixteen : length s.bodies ≡ 1
       left : program_step (open_at b.entries) (line.Exit (written_exit b.exit)) ≡ Ok (record { state = having b; stage = Ended n })
       left =
           ap (at_stage (Ended n))
-          (in_at (λ x. exit_step n x (written_exit b.exit)) (body b.entries) b tt (ap (leave_by (body b.entries)) (exit_back n b.exit last)))
+          (in_at (λ x. exit_step n x (raw_exit (written_exit b.exit))) (body b.entries) b tt (ap (leave_by (body b.entries)) (exit_back n b.exit last)))
 
       pub block_leads : WellPlaced (slots_of s.description.slots) b.entries → AllByRecursion Held b.entries → Leads (record { state = s; stage = g }) (block_lines n b) (record { state = having b; stage = Ended n })
       block_leads well h = (

@@ -5,14 +5,25 @@ use Rattle.operations.specs.declared.operation.Source.TheVariants as source
 use Rattle.operations.specs.declared.operation.Form.{Form}
 use Rattle.operations.specs.declared.operation.Form.TheVariants as form
 use Rattle.operations.specs.declared.operation.Operation.{Operation}
-use Rattle.operations.specs.Raw.{name_of_predicate, named_general, raw_opcode, raw_destinations}
+use Rattle.operations.specs.declared.raw.UpToTwo.{UpToTwo}
+use Rattle.operations.specs.declared.raw.UpToTwo.TheVariants as up_to
+use Rattle.operations.specs.Raw.{raw_opcode}
 use Rattle.registers.specs.declared.register.General.{General}
+use Rattle.registers.specs.declared.register.General.TheVariants as general
+use Rattle.registers.specs.declared.register.Predicate.{Predicate}
+use Rattle.registers.specs.declared.register.Predicate.TheVariants as predicate
 use Rattle.blocks.specs.declared.exit.Exit.{Exit}
 use Rattle.blocks.specs.declared.exit.Exit.TheVariants as exit
-use Rattle.blocks.specs.declared.exit.RawExit.{RawExit}
-use Rattle.blocks.specs.declared.exit.RawExit.TheVariants as raw
 use Rattle.blocks.specs.declared.position.Position.{Position}
 use Rattle.blocks.specs.declared.position.Entry.{Entry}
+use Rattle.lines.specs.declared.written.WrittenGeneral.{WrittenGeneral}
+use Rattle.lines.specs.declared.written.WrittenGeneral.TheVariants as general_name
+use Rattle.lines.specs.declared.written.WrittenPredicate.{WrittenPredicate}
+use Rattle.lines.specs.declared.written.WrittenPredicate.TheVariants as predicate_name
+use Rattle.lines.specs.declared.written.WrittenRegister.{WrittenRegister}
+use Rattle.lines.specs.declared.written.WrittenRegister.TheVariants as name
+use Rattle.lines.specs.declared.written.WrittenExit.{WrittenExit}
+use Rattle.lines.specs.declared.written.WrittenExit.TheVariants as raw
 use Rattle.lines.specs.declared.written.WrittenOperand.{WrittenOperand}
 use Rattle.lines.specs.declared.written.WrittenOperand.TheVariants.{Register, Literal}
 use Rattle.lines.specs.declared.written.WrittenSources.{WrittenSources}
@@ -22,12 +33,26 @@ use Rattle.lines.specs.declared.written.WrittenPosition.{WrittenPosition}
 use Rattle.lines.specs.declared.written.ProgramLine.{ProgramLine}
 use Rattle.lines.specs.declared.written.ProgramLine.TheVariants as line
 
+abbrev pub written_general : General → WrittenGeneral
+written_general (general.Static n) = general_name.Static n.number
+written_general (general.Rotating n) = general_name.Rotating n.number
+
+abbrev pub written_predicate : Predicate → WrittenPredicate
+written_predicate (predicate.Static n) = predicate_name.Static n.number
+written_predicate (predicate.Rotating n) = predicate_name.Rotating n.number
+
+abbrev pub general_written : General → WrittenRegister
+general_written g = name.General (written_general g)
+
+abbrev pub predicate_written : Predicate → WrittenRegister
+predicate_written p = name.Predicate (written_predicate p)
+
 abbrev pub written_source : Source → WrittenOperand
-written_source (source.Register g) = Register (named_general g)
+written_source (source.Register g) = Register (general_written g)
 written_source (source.Literal z) = Literal z
 
 abbrev pub written_address : General → WrittenOperand
-written_address g = Register (named_general g)
+written_address g = Register (general_written g)
 
 abbrev pub written_sources : Form → WrittenSources
 written_sources (form.Binary o d a b) = Two (written_source a) (written_source b)
@@ -36,22 +61,29 @@ written_sources (form.Compare c t a b) = Two (written_source a) (written_source 
 written_sources (form.Load d a) = One (written_address a)
 written_sources (form.Store a v) = Two (written_address a) (written_address v)
 
+abbrev pub written_destinations : Form → UpToTwo WrittenRegister
+written_destinations (form.Binary o d a b) = up_to.One (general_written d)
+written_destinations (form.Unary o d a) = up_to.One (general_written d)
+written_destinations (form.Compare c t a b) = up_to.Two (predicate_written t.first.to) (predicate_written t.second.to)
+written_destinations (form.Load d a) = up_to.One (general_written d)
+written_destinations (form.Store a v) = up_to.Zero
+
 abbrev pub written_operation : Operation → WrittenOperation
 written_operation x = record {
   opcode = raw_opcode x.form;
-  guard = name_of_predicate x.guard;
-  destinations = raw_destinations x.form;
+  guard = written_predicate x.guard;
+  destinations = written_destinations x.form;
   sources = written_sources x.form;
 }
 
 abbrev pub written_position : Position → WrittenPosition
 written_position p = record { cycle = p.cycle; slot = p.slot }
 
-abbrev pub written_exit : Exit → RawExit
+abbrev pub written_exit : Exit → WrittenExit
 written_exit exit.Halt = raw.Halt
 written_exit exit.Next = raw.Next
 written_exit (exit.Goto t) = raw.Goto t.number
-written_exit (exit.If p t) = raw.If (name_of_predicate p) t.number
+written_exit (exit.If p t) = raw.If (written_predicate p) t.number
 written_exit (exit.Loop t) = raw.Loop t.number
 
 abbrev pub entry_line : Entry → ProgramLine

@@ -19,7 +19,7 @@ fn machine() -> Result<Description, Refusal> {
     })
 }
 
-fn r(n: u64) -> RegisterName {
+fn r(n: u8) -> RegisterName {
     RegisterName::General(GeneralName::Static(n))
 }
 
