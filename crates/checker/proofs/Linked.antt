@@ -1,15 +1,13 @@
 -- From placed operations to the program and its schedule: all pairs kept. Assumes nothing.
-use Rattle.std.proofs.Common.{◌≡◌, ℕ, ◌+◌, ◌<◌, ◌≤◌, Bool, true, false, cond, not, ◌&&◌, ◌||◌, eqb, ltb, leb, ◌⊎◌, ◌↔◌, List, [], ◌∷◌, length, get_or, sym, refl, ap, ◌∙◌, subst, ap₂, inl, inr, arith}
-use Rattle.std.proofs.lemmas.Bool.{leb-true, ltb-true, eqb-true, and_parts, and_from, or_cases, or_left, or_right}
-use Rattle.operations.specs.declared.refusal.Dependence.{Dependence}
+use Rattle.std.proofs.Common.{◌≡◌, ℕ, ◌<◌, ◌≤◌, Bool, true, false, not, ◌&&◌, ◌||◌, eqb, ltb, List, [], ◌∷◌, length, get_or, sym, refl, ◌∙◌, ap₂, inl, inr, arith}
+use Rattle.std.proofs.lemmas.Bool.{leb-true, ltb-true, eqb-true, and_parts, and_from, or_cases, or_left}
 use Rattle.operations.specs.declared.refusal.Dependence.TheVariants.{Flow, Anti, Output, Memory}
 use Rattle.registers.specs.declared.register.Register.{Register}
-use Rattle.registers.specs.declared.register.Place.{Place}
 use Rattle.registers.specs.declared.register.Place.TheVariants as place
 use Rattle.histories.specs.Schedule as schedule
 use Rattle.histories.specs.Schedule.{Program, Schedule, uses, FlowKept, AntiKept, OutputKept, ConflictKept, Kept}
 use Rattle.checker.specs.declared.placed.Placed.{Placed}
-use Rattle.checker.specs.Pairs.{reads_at, writes_at, linked, holds, broken, Unbroken, PairKept, AllKept}
+use Rattle.checker.specs.Pairs.{reads_at, writes_at, linked, holds, PairKept, AllKept}
 use Rattle.checker.specs.Seen.{Tied, Seen}
 
 -- an element of a list that has one

@@ -1,5 +1,5 @@
 -- One pair more. Assumes nothing.
-use Rattle.std.proofs.Common.{◌≡◌, ℕ, ◌+◌, ◌<◌, List, length, get_or, sym, subst, below_more}
+use Rattle.std.proofs.Common.{◌≡◌, ℕ, ◌+◌, ◌<◌, List, length, get_or, subst, below_more}
 use Rattle.std.proofs.lemmas.List.{get_or_read}
 use Rattle.checker.specs.declared.placed.Placed.{Placed}
 use Rattle.checker.specs.Pairs.{PairKept, KeptBefore}

@@ -1,13 +1,13 @@
 -- What holds at each part of what an operation writes and reads holds at each register. Assumes nothing.
-use Rattle.std.proofs.Common.{◌≡◌, ℕ, ◌<◌, ◌≤◌, Bool, true, false, not, ◌&&◌, ◌||◌, ◌⊎◌, List, [], ◌∷◌, ◌++◌, get_or, Some, None, Option, sym, refl, ap, ◌∙◌, subst, inl, inr, arith, lit<}
+use Rattle.std.proofs.Common.{◌≡◌, ℕ, ◌<◌, ◌≤◌, true, false, ◌⊎◌, List, ◌++◌, get_or, Some, None, Option, refl, subst, inl, inr, arith, lit<}
 use Rattle.std.specs.Option.{option_to_list}
-use Rattle.std.proofs.lemmas.Bool.{cases_Bool, or_cases, and_parts}
+use Rattle.std.proofs.lemmas.Bool.{cases_Bool, or_cases}
 use Rattle.registers.proofs.Equal.{register_same}
 use Rattle.registers.specs.declared.register.Register.{Register}
 use Rattle.registers.specs.declared.register.Place.{Place}
 use Rattle.registers.specs.declared.register.Place.TheVariants as place
 use Rattle.registers.specs.Registers.{is_place}
-use Rattle.operations.specs.Access.{among, read_list, write_list}
+use Rattle.operations.specs.Access.{among}
 use Rattle.checker.specs.declared.placed.Placed.{Placed}
 use Rattle.operations.specs.declared.refusal.Dependence.TheVariants.{Memory}
 use Rattle.checker.specs.Pairs.{broken, reads_at, writes_at, Unbroken, PartKept, PairKept, parts_of}

@@ -1,12 +1,10 @@
 -- The verdict on a block is right. Assumes nothing.
-use Rattle.std.proofs.Common.{◌≡◌, ℕ, ◌+◌, ◌-◌, ◌<◌, ◌≤◌, ◌↔◌, List, length, get_or, take, Some, None, Ok, Err, Option, Result, sym, refl, ap, ◌∙◌, subst, arith}
+use Rattle.std.proofs.Common.{◌≡◌, ℕ, ◌+◌, ◌<◌, ◌≤◌, List, length, take, None, Ok, Option, sym, refl, subst, arith}
 use Rattle.std.proofs.lemmas.List.{get_or-take, length-take-le}
 use Rattle.operations.specs.declared.refusal.Dependence.{Dependence}
 use Rattle.operations.specs.declared.refusal.Dependence.TheVariants.{Flow, Anti, Output, Memory}
-use Rattle.operations.specs.declared.refusal.Refusal.{Refusal}
 use Rattle.operations.specs.declared.refusal.Violation.{Violation}
 use Rattle.registers.specs.declared.register.Place.{Place}
-use Rattle.registers.specs.declared.register.Place.TheVariants as place
 use Rattle.histories.specs.Schedule as schedule
 use Rattle.histories.specs.Schedule.{Program, Schedule, Sound, AlwaysSame}
 use Rattle.histories.proofs.Dependences.{kept_is_always_same_lem}

@@ -1,6 +1,6 @@
 -- A violation that is found is there, and shows. Assumes nothing.
-use Rattle.std.proofs.Common.{◌≡◌, ℕ, ◌+◌, ◌-◌, ◌<◌, ◌≤◌, Bool, true, false, cond, not, ◌&&◌, ◌||◌, eqb, ltb, leb, ◌⊎◌, ◌↔◌, List, length, get_or, sym, refl, ap, ◌∙◌, subst, ap₂, inl, inr, arith}
-use Rattle.std.proofs.lemmas.Bool.{leb-false, ltb-false, eqb-true, eq-eqb, ne_eqb, lt-ltb, and_parts, and_from, or_cases, or_left, or_right, cases_Bool}
+use Rattle.std.proofs.Common.{◌≡◌, ℕ, ◌+◌, ◌<◌, ◌≤◌, Bool, true, false, cond, not, ◌&&◌, ◌||◌, eqb, ltb, ◌↔◌, List, get_or, sym, refl, ap, ◌∙◌, ap₂, inl, inr, arith}
+use Rattle.std.proofs.lemmas.Bool.{leb-false, ltb-false, eqb-true, eq-eqb, ne_eqb, lt-ltb, and_parts, and_from, or_left, or_right, cases_Bool}
 use Rattle.operations.specs.declared.refusal.Dependence.{Dependence}
 use Rattle.operations.specs.declared.refusal.Dependence.TheVariants.{Flow, Anti, Output, Memory}
 use Rattle.operations.specs.declared.refusal.Violation.{Violation}
@@ -11,10 +11,10 @@ use Rattle.histories.specs.Schedule as schedule
 use Rattle.histories.specs.Schedule.{Program, Schedule, Sound, Same, none_withheld, FlowKept, AntiKept, OutputKept, ConflictKept}
 use Rattle.histories.proofs.Dependences.{broken_always_shows_lem}
 use Rattle.checker.specs.declared.placed.Placed.{Placed}
-use Rattle.checker.specs.Pairs.{reads_at, writes_at, linked, holds, broken, least_for, of_registers, is_register, Breaks, Found}
+use Rattle.checker.specs.Pairs.{reads_at, writes_at, linked, holds, broken, least_for, Breaks, Found}
 use Rattle.checker.specs.Seen.{Tied, Seen}
 use Rattle.checker.specs.Verdicts.{Depends, Holds, moved, NamedLatencies, Shows}
-use Rattle.checker.proofs.Linked.{Two, two_of}
+use Rattle.checker.proofs.Linked.{two_of}
 
 clash : {A : Type 0} → true ≡ false → A
 clash e = let z : ◌≡◌ {A = ℕ} 0 1 = cc in absurd (omega arith)

@@ -1,11 +1,9 @@
 -- The operations of a block, one more seen. Assumes nothing.
-use Rattle.std.proofs.Common.{◌≡◌, ℕ, zero, suc, ◌+◌, ◌<◌, ◌≤◌, Bool, true, false, cond, ◌⊎◌, List, [], ◌∷◌, map, length, get_or, set, is_some, Some, None, Option, sym, refl, ap, ◌∙◌, subst, inl, inr, add-zero, arith, below_more}
+use Rattle.std.proofs.Common.{◌≡◌, ℕ, zero, suc, ◌+◌, ◌<◌, true, false, cond, List, [], ◌∷◌, map, length, get_or, set, is_some, Some, None, sym, refl, ap, ◌∙◌, subst, add-zero, arith, below_more}
 use Rattle.std.proofs.lemmas.List.{get_or-map, get_or-set_same, get_or-set_other}
-use Rattle.registers.specs.declared.register.Place.{Place}
 use Rattle.operations.specs.Access.{among, read_list, write_list, reads, writes}
 use Rattle.blocks.specs.declared.description.Description.{Description}
 use Rattle.blocks.specs.declared.position.Entry.{Entry}
-use Rattle.blocks.specs.declared.position.Position.{Position}
 use Rattle.blocks.specs.Machine.{bounds_of}
 use Rattle.blocks.specs.Entries.{position_of, placed, cycle_in, slot_in, unplaced_from, unplaced_lowest}
 use Rattle.checker.specs.declared.placed.Placed.{Placed}

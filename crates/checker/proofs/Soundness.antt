@@ -1,5 +1,5 @@
 -- A block whose operations are all placed is sound. Assumes nothing.
-use Rattle.std.proofs.Common.{◌≡◌, ℕ, zero, suc, ◌+◌, ◌<◌, ◌≤◌, Bool, true, false, cond, ◌&&◌, ◌||◌, eqb, ltb, ◌⊎◌, List, [], ◌∷◌, ◌++◌, map, length, get_or, is_some, Some, None, Option, sym, refl, ap, ◌∙◌, subst, inl, inr, arith, lit<}
+use Rattle.std.proofs.Common.{◌≡◌, ℕ, zero, suc, ◌<◌, Bool, true, false, cond, eqb, ltb, List, [], ◌∷◌, ◌++◌, map, length, get_or, is_some, Some, None, Option, sym, refl, ◌∙◌, arith, lit<}
 use Rattle.std.specs.Option.{option_to_list}
 use Rattle.std.proofs.lemmas.Bool.{eq-eqb, and_from}
 use Rattle.registers.specs.declared.register.General as general
@@ -13,15 +13,14 @@ use Rattle.registers.specs.Registers.{general_place, predicate_place}
 use Rattle.operations.specs.declared.access.Class.{Class}
 use Rattle.operations.specs.declared.operation.Form.{Form}
 use Rattle.operations.specs.declared.operation.Form.TheVariants.{Binary, Unary, Compare, Load, Store}
-use Rattle.operations.specs.declared.operation.Operation.{Operation}
 use Rattle.operations.specs.Access.{among, reads, writes}
 use Rattle.blocks.specs.declared.description.Description.{Description}
 use Rattle.blocks.specs.declared.description.Slot.{Slot}
 use Rattle.blocks.specs.declared.position.Entry.{Entry}
 use Rattle.blocks.specs.declared.position.Position.{Position}
 use Rattle.blocks.specs.Machine.{takes_class, slots_of}
-use Rattle.blocks.specs.Entries.{position_of, placed, cycle_in, slot_in, cycle_of, slot_of, clash, Apart, fits_position, fits_slot, WellPlaced}
-use Rattle.histories.specs.Schedule.{Program, Schedule, Sound}
+use Rattle.blocks.specs.Entries.{placed, cycle_in, slot_in, slot_of, clash, fits_position, fits_slot, WellPlaced}
+use Rattle.histories.specs.Schedule.{Sound}
 use Rattle.checker.specs.declared.placed.Placed.{Placed}
 use Rattle.checker.specs.Programs.{program_of, schedule_of}
 use Rattle.checker.specs.Seen.{Tied, SeenTo}

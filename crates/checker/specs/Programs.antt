@@ -1,6 +1,5 @@
 -- The operations of a block as a program and its schedule. Assumes nothing.
 use Rattle.std.specs.Prelude.{ℕ, false, List, map, length, Some, None, Option, slice_index_or}
-use Rattle.operations.specs.declared.operation.Operation.{Operation}
 use Rattle.operations.specs.Access.{reads, writes}
 use Rattle.blocks.specs.declared.description.Bounds.{Bounds}
 use Rattle.blocks.specs.declared.description.Description.{Description}
