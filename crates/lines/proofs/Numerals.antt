@@ -1,6 +1,5 @@
 -- Numbers in a line, token by token. Assumes nothing.
-use Rattle.std.proofs.Common.{◌≡◌, ℕ, true, false, List, [], ◌∷◌, ◌++◌, pos, Some, None, codes, decimal, Option, sym, refl, ap, ◌∙◌, subst, append-nil, arith}
-use Rattle.std.specs.Int.{IsInRange}
+use Rattle.std.proofs.Common.{◌≡◌, ℕ, true, List, [], ◌++◌, pos, Some, None, codes, decimal, Option, sym, refl, ◌∙◌, append-nil, arith}
 use Rattle.lines.specs.declared.written.WrittenPosition.{WrittenPosition}
 use Rattle.lines.specs.declared.written.Token.TheVariants as token
 use Rattle.lines.specs.Lines.{position_text, ShortPosition}

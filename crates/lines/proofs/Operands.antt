@@ -1,5 +1,5 @@
 -- Guards and sources, token by token. Assumes nothing.
-use Rattle.std.proofs.Common.{◌≡◌, ℕ, Bool, true, false, cond, List, [], ◌∷◌, ◌++◌, get_or, ℤ, pos, negsuc, Some, None, codes, Option, sym, refl, ap, ◌∙◌, subst, ⊎_elim, append-nil, arith}
+use Rattle.std.proofs.Common.{◌≡◌, ℕ, true, false, List, [], ◌∷◌, ◌++◌, get_or, Some, None, codes, Option, sym, refl, ap, ◌∙◌, ⊎_elim, append-nil, arith}
 use Rattle.std.specs.Int.{IsInRange}
 use Rattle.std.proofs.lemmas.Bool.{false≢true, cases_Bool, cond-true, cond-false}
 use Rattle.lines.specs.declared.written.WrittenPredicate.{WrittenPredicate}
@@ -12,7 +12,7 @@ use Rattle.lines.specs.declared.written.Token.TheVariants as token
 use Rattle.lines.specs.Numbers.{Short}
 use Rattle.lines.specs.Tokens.{TokenAt}
 use Rattle.lines.specs.Written.{always, guard_text, operand_text, sources_text, predicate_name_text, predicate_number, ShortOperand, ShortSources}
-use Rattle.lines.specs.Said.{Says, Passes, Whole, Reads, operand_token}
+use Rattle.lines.specs.Said.{Says, Passes, Reads, operand_token}
 use Rattle.lines.proofs.Sayings.{none_some, some_same}
 
 -- a text begins with one byte

@@ -1,5 +1,5 @@
 -- Lines that begin with a word. Assumes nothing.
-use Rattle.std.proofs.Common.{◌≡◌, ℕ, ◌<◌, ◌≤◌, List, [], ◌∷◌, ◌++◌, get_or, IfSome, Some, None, codes, decimal, Option, sym, refl, ap, ◌∙◌, subst, arith}
+use Rattle.std.proofs.Common.{◌≡◌, ℕ, ◌<◌, ◌≤◌, List, [], ◌++◌, get_or, IfSome, Some, None, codes, decimal, Option, sym, refl, ap, ◌∙◌, arith}
 use Rattle.lines.specs.declared.written.WrittenExit.{WrittenExit}
 use Rattle.lines.specs.declared.written.WrittenExit.TheVariants as exit
 use Rattle.lines.specs.declared.mark.Mark.{Mark}

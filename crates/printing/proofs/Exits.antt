@@ -1,6 +1,5 @@
 -- A printed exit is read back as it was. Assumes nothing.
-use Rattle.std.proofs.Common.{◌≡◌, ℕ, false, ◌&&◌, leb, Some, sym, refl, ap, arith}
-use Rattle.std.specs.Option.{option_map}
+use Rattle.std.proofs.Common.{◌≡◌, ℕ, false, ◌&&◌, leb, Some, sym, refl, arith}
 use Rattle.operations.proofs.Exact.{predicate_back}
 use Rattle.blocks.specs.declared.exit.BlockNumber.{BlockNumber}
 use Rattle.blocks.specs.declared.exit.Exit.{Exit}

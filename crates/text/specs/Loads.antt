@@ -8,7 +8,7 @@ use Rattle.lines.specs.Lines.{IsDescriptionLine, IsProgramLine}
 use Rattle.text.specs.declared.stage.Stage.{Stage}
 use Rattle.text.specs.Texts.{lines_of, Taken}
 use Rattle.text.specs.Describing.{Described, nothing, description_step, Complete, Incomplete}
-use Rattle.text.specs.Programs.{Reading, start, program_step}
+use Rattle.text.specs.Programs.{start, program_step}
 
 abbrev pub FitsText : List ℕ → Type 0
 FitsText t = length t ≤ 65535

@@ -1,17 +1,15 @@
 -- The blocks that have operations, one by one. Assumes nothing.
-use Rattle.std.proofs.Common.{◌≡◌, ℕ, ◌+◌, ◌<◌, ◌≤◌, Bool, true, false, cond, ◌&&◌, ltb, List, [], ◌∷◌, ◌++◌, map, length, get_or, drop, IfSome, Some, None, Ok, vec_items, vec_len, Option, Result, sym, refl, ap, ◌∙◌, subst, append_assoc, append-nil, arith}
+use Rattle.std.proofs.Common.{◌≡◌, ℕ, ◌+◌, ◌<◌, ◌≤◌, Bool, true, false, cond, ◌&&◌, ltb, List, [], ◌∷◌, ◌++◌, map, length, drop, IfSome, Some, None, Ok, Option, Result, sym, refl, ap, ◌∙◌, subst, append_assoc, append-nil, arith}
 use Rattle.std.specs.List.{AllByRecursion}
 use Rattle.std.proofs.slice.Lists.{all_by_recursion_push}
 use Rattle.std.proofs.lemmas.List.{drop_more, drop_all, length_push, map-append}
 use Rattle.std.proofs.lemmas.Bool.{lt-ltb, and_parts, false≢true, cond-true}
 use Rattle.operations.specs.declared.refusal.Refusal.{Refusal}
-use Rattle.blocks.specs.declared.blocks.Blocks.{Blocks}
-use Rattle.blocks.specs.Model.{Body, empty}
+use Rattle.blocks.specs.Model.{empty}
 use Rattle.blocks.specs.declared.description.Description.{Description}
 use Rattle.blocks.specs.declared.position.Entry.{Entry}
-use Rattle.blocks.specs.Calls.{State, body_at, block_at}
+use Rattle.blocks.specs.Calls.{State, body_at}
 use Rattle.blocks.specs.Entries.{unplaced_lowest}
-use Rattle.blocks.specs.Whole.{state_of}
 use Rattle.checker.specs.declared.verdict.Verdict.{Verdict}
 use Rattle.checker.specs.declared.verdict.Verdict.TheVariants as verdict
 use Rattle.checker.specs.Checks.{Checked, CheckedIn, JudgedWith}

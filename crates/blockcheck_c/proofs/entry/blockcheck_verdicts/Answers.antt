@@ -1,4 +1,4 @@
-use Rattle.std.proofs.Common.{◌≡◌, ◌<◌, length, vec_items, sym, ap, ◌∙◌, subst, arith}
+use Rattle.std.proofs.Common.{vec_items, ap, ◌∙◌, subst, arith}
 use Rattle.blocks.specs.Whole.{state_of}
 use Rattle.verdicts.specs.Listing.{Told}
 use Rattle.blockcheck_c.specs.Numbers.{numbers_of}

@@ -2,7 +2,7 @@ use Rattle.std.proofs.Common.{Some, subst}
 use Rattle.lines.specs.declared.written.Token.TheVariants as token
 use Rattle.lines.specs.Items.{left}
 use Rattle.lines.specs.Said.{Says}
-use Rattle.lines.proofs.Described.{line_none, line_slot, line_bounds, line_no_bounds}
+use Rattle.lines.proofs.Described.{line_none, line_slot}
 use Rattle.lines.proofs.description.said.Goals as goal
 
 pub returns-in_default : goal.returns-in_default

@@ -1,4 +1,4 @@
-use Rattle.std.proofs.Common.{sym, arith, true-eqb, false-eqb}
+use Rattle.std.proofs.Common.{arith, true-eqb, false-eqb}
 use Rattle.std.proofs.lemmas.List.{nil_from_length}
 use Rattle.text.proofs.Cuts.{cut_at, front_plain, cut_line, last_line}
 use Rattle.text.proofs.cutting.cut_line.Goals as goal

@@ -1,4 +1,4 @@
-use Rattle.std.proofs.Common.{◌+◌, vec_items, sym, subst, arith}
+use Rattle.std.proofs.Common.{◌+◌, sym, subst, arith}
 use Rattle.blocks.proofs.Counted.{sixteen}
 use Rattle.checker.specs.Checks.{Checked}
 use Rattle.blocks.specs.Whole.{state_of}

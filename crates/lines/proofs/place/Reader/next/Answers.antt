@@ -1,6 +1,5 @@
-use Rattle.std.proofs.Common.{◌≡◌, ℕ, ◌+◌, ◌-◌, List, length, take, drop, sym, refl, ap, ◌∙◌, subst, arith, length-append, length-drop}
+use Rattle.std.proofs.Common.{◌-◌, length, take, drop, sym, refl, ap, ◌∙◌, subst, arith, length-drop}
 use Rattle.lines.specs.Tokens.{token_text, TokenAt}
-use Rattle.lines.specs.Items.{left}
 use Rattle.lines.proofs.Parts.{taken_length, left_behind, token_same}
 use Rattle.lines.proofs.place.Reader.next.Goals as goal
 
