@@ -1,7 +1,7 @@
 #!/usr/bin/env python3
 """Brings the definitions and lemmas of specs/ and proofs/ to the library's spelling: words in snake case, types and facts in
 camel case. Run once, at the top, after the kit's own scripts. It goes by the text: a name that specs/ or proofs/ define (a goal's
-name apart) and that has a dash is spelled anew wherever it stands in .antt and .rt files, in edits, and between backticks in
+name apart) and that has a dash, or a type that has words joined by _, is spelled anew wherever it stands in .antt and .rt files, in edits, and between backticks in
 pages. Strings, and names of src/, stay. It stops, and changes nothing, where two names would fall together."""
 import collections
 import glob
@@ -36,7 +36,7 @@ def spelled(name):
     if name in LEMMAS:
         return name.replace("-", "_") + "_lem"
     if name[0].isupper():
-        return "".join(part[:1].upper() + part[1:] for part in name.split("-"))
+        return "".join(part[:1].upper() + part[1:] for part in re.split("[-_]", name))
     return name.replace("-", "_")
 
 
@@ -77,7 +77,7 @@ def main():
         goals |= g
         for word in TOKEN.findall(STRING.sub("", text)):
             uses[word].add(path)
-    table = {n: spelled(n) for n in found - goals if "-" in n}
+    table = {n: spelled(n) for n in found - goals if "-" in n or (n[0].isupper() and "_" in n)}
     # A name that is spelled so already, somewhere: the same file must not have both.
     clash = []
     back = collections.defaultdict(set)

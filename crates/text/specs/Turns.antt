@@ -4,8 +4,8 @@ use Rattle.operations.specs.declared.refusal.Refusal.{Refusal}
 use Rattle.text.specs.Texts.{lines_of, Taken}
 
 -- the line l takes s to t, whatever lines come behind it
-abbrev pub Goes_on : {S W : Type 0} (Line : List ℕ → W → Type 0) (step : S → W → Result S Refusal) → S → List ℕ → S → Type 0
-Goes_on Line step s l t = (ls : List (List ℕ)) (o : Result _ (Refusal × List ℕ)) → Taken Line step t ls o → Taken Line step s (l ∷ ls) o
+abbrev pub GoesOn : {S W : Type 0} (Line : List ℕ → W → Type 0) (step : S → W → Result S Refusal) → S → List ℕ → S → Type 0
+GoesOn Line step s l t = (ls : List (List ℕ)) (o : Result _ (Refusal × List ℕ)) → Taken Line step t ls o → Taken Line step s (l ∷ ls) o
 
 -- the line l is refused, whatever lines come behind it
 abbrev pub Stops : {S W : Type 0} (Line : List ℕ → W → Type 0) (step : S → W → Result S Refusal) → S → List ℕ → Refusal → Type 0

@@ -5,7 +5,7 @@ ghost use Rattle.text.specs.Describing.{nothing, description_step};
 ghost use Rattle.text.specs.Programs.{program_step};
 ghost use Rattle.text.specs.Views.{described_of, reading_of};
 ghost use Rattle.text.specs.Texts.{lines_of, Taken};
-ghost use Rattle.text.specs.Turns.{Goes_on, Stops};
+ghost use Rattle.text.specs.Turns.{GoesOn, Stops};
 
 use crate::cutting::cut_line;
 use crate::loading::Loading;
@@ -14,7 +14,7 @@ use lines::{description_line, program_line};
 use operations::Refusal;
 
 fn describe(part: Part, line: &[u8]) -> Result<Part, Refusal>
-    ensures { MatchResult result (λ t. Goes_on IsDescriptionLine description_step (described_of part) line.now (described_of t)) (λ e. Stops IsDescriptionLine description_step (described_of part) line.now e) }
+    ensures { MatchResult result (λ t. GoesOn IsDescriptionLine description_step (described_of part) line.now (described_of t)) (λ e. Stops IsDescriptionLine description_step (described_of part) line.now e) }
 {
     let Some(said) = description_line(line) else {
         return Err(Refusal::Unreadable);
@@ -23,7 +23,7 @@ fn describe(part: Part, line: &[u8]) -> Result<Part, Refusal>
 }
 
 fn read(loading: &mut Loading, line: &[u8]) -> Result<(), Refusal>
-    ensures { MatchResult result (λ _. Goes_on IsProgramLine program_step (reading_of loading.old) line.now (reading_of loading.new)) (λ e. Stops IsProgramLine program_step (reading_of loading.old) line.now e) }
+    ensures { MatchResult result (λ _. GoesOn IsProgramLine program_step (reading_of loading.old) line.now (reading_of loading.new)) (λ e. Stops IsProgramLine program_step (reading_of loading.old) line.now e) }
 {
     let Some(said) = program_line(line) else {
         return Err(Refusal::Unreadable);
