@@ -5,6 +5,7 @@ use Rattle.std.proofs.lemmas.Bool.{cases_eq}
 use Rattle.operations.specs.declared.refusal.Refusal.{Refusal}
 use Rattle.operations.specs.declared.refusal.Refusal.TheVariants.{NoSuch}
 use Rattle.blocks.specs.declared.description.Slot.{Slot}
+use Rattle.blocks.specs.declared.position.Entry.{Entry}
 use Rattle.blocks.specs.declared.block.Block.{Block}
 use Rattle.blocks.specs.declared.blocks.Blocks.{Blocks}
 use Rattle.blocks.specs.Steps.{Outcome, answer, after, Did}
@@ -102,3 +103,9 @@ pub well_placed : (B : Blocks) (n : ℕ) (x : Block) → body_of x ≡ body_at (
 well_placed B n x e =
     let P : Body → Type 0 = λ b. AllFit (slots_of B.description.slots) b.entries in
     record { few = omega (arith, x.few, x.entries.ok.0); apart = x.apart; fit = subst P (sym e) (B.fit n) }
+
+-- the operations of block n, as they are read
+pub entries_read : (B : Blocks) (n : ℕ) (x : Block) → n < 16 → body_of x ≡ body_at (state_of B) n → (es : List Entry) → es ≡ x.entries.items → (n < 16) × (es ≡ (body_at (state_of B) n).entries) × WellPlaced (slots_of B.description.slots) es
+entries_read B n x h e es is =
+    let P : List Entry → Type 0 = λ es. WellPlaced (slots_of B.description.slots) es in
+    (h, is ∙ ap (λ (b : Body). b.entries) e, subst P (sym is) (well_placed B n x e))
