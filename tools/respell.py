@@ -1,8 +1,9 @@
 #!/usr/bin/env python3
 """Brings the definitions and lemmas of specs/ and proofs/ to the library's spelling: words in snake case, types and facts in
-camel case. Run once, at the top, after the kit's own scripts. It goes by the text: a name that specs/ or proofs/ define (a goal's
-name apart) and that has a dash, or a type that has words joined by _, is spelled anew wherever it stands in .antt and .rt files, in edits, and between backticks in
-pages. Strings, and names of src/, stay. It stops, and changes nothing, where two names would fall together."""
+camel case. Run once, at the top, after the kit's own scripts. It goes by the text: a name that specs/ or proofs/ define (a
+goal's name apart) and that has a dash, or a type that has words joined by _, is spelled anew wherever it stands in .antt and
+.rt files, in edits, and between backticks in pages. Strings, and names of src/, stay. It stops, and changes nothing, where
+two names would fall together."""
 import collections
 import glob
 import re
@@ -67,52 +68,71 @@ def turn(text, table):
     return "".join(out)
 
 
-def main():
+def read(path):
+    with open(path, encoding="utf-8") as f:
+        return f.read()
+
+
+def write(path, old, new):
+    if new != old:
+        with open(path, "w", encoding="utf-8") as f:
+            f.write(new)
+
+
+def names_and_uses():
+    """The names that are defined and are no goals, and for each word the files that it stands in."""
     found, goals, uses = set(), set(), collections.defaultdict(set)
     for path in antt():
-        with open(path, encoding="utf-8") as f:
-            text = f.read()
+        text = read(path)
         d, g = names_of(text)
         found |= d
         goals |= g
         for word in TOKEN.findall(STRING.sub("", text)):
             uses[word].add(path)
-    table = {n: spelled(n) for n in found - goals if "-" in n or (n[0].isupper() and "_" in n)}
-    # A name that is spelled so already, somewhere: the same file must not have both.
-    clash = []
+    return found, goals, uses
+
+
+def clashes(table, found, uses):
+    """Where two names would fall together: in one file, in one spelling, or with a name that is defined already."""
+    told = []
     back = collections.defaultdict(set)
     for old, new in table.items():
         back[new].add(old)
         both = set() if old in TOGETHER else uses[old] & uses.get(new, set())
-        clash += [f"{old} and {new} stand both in {p}" for p in sorted(both)]
+        told += [f"{old} and {new} stand both in {p}" for p in sorted(both)]
         if new in found:
-            clash.append(f"{old} would be {new}, which is defined too")
-    clash += [f"{' and '.join(sorted(olds))} would all be {new}" for new, olds in sorted(back.items()) if len(olds) > 1]
-    for path in glob.glob("crates/*/src/**/*.rt", recursive=True):
-        with open(path, encoding="utf-8") as f:
-            items = set(re.findall(r"\b(?:fn|struct|enum|trait|const|type|mod) (\w+)", f.read()))
+            told.append(f"{old} would be {new}, which is defined too")
+    return told + [f"{' and '.join(sorted(olds))} would all be {new}" for new, olds in back.items() if len(olds) > 1]
+
+
+def look_at_items(table, uses):
+    for path in sorted(glob.glob("crates/*/src/**/*.rt", recursive=True)):
+        items = set(re.findall(r"\b(?:fn|struct|enum|trait|const|type|mod) (\w+)", read(path)))
         crate = path.split("/")[1]
-        for old, new in table.items():
+        for old, new in sorted(table.items()):
             if new in items and any(p.startswith(f"crates/{crate}/") for p in uses[old]):
                 print(f"look: {new} (from {old}) is an item of {path} too")
+
+
+def in_backticks(text, table):
+    return re.sub(r"`([^`\n]*)`", lambda m: "`" + TOKEN.sub(lambda w: table.get(w[0], w[0]), m[1]) + "`", text)
+
+
+def main():
+    found, goals, uses = names_and_uses()
+    table = {n: spelled(n) for n in found - goals if "-" in n or (n[0].isupper() and "_" in n)}
+    look_at_items(table, uses)
+    clash = clashes(table, found, uses)
     if clash:
         print("\n".join(sorted(clash)))
         sys.exit(1)
-    paths = antt() + glob.glob("crates/*/src/**/*.rt", recursive=True) + glob.glob("crates/*/must-fail/*.edit")
-    for path in sorted(paths):
-        with open(path, encoding="utf-8") as f:
-            text = f.read()
-        new = turn(text, table)
-        if new != text:
-            with open(path, "w", encoding="utf-8") as f:
-                f.write(new)
+    sources = antt() + glob.glob("crates/*/src/**/*.rt", recursive=True) + glob.glob("crates/*/must-fail/*.edit")
+    for path in sorted(sources):
+        text = read(path)
+        write(path, text, turn(text, table))
     for path in ["README.md", "CHANGELOG.md"] + sorted(glob.glob("docs/*.md")):
-        with open(path, encoding="utf-8") as f:
-            text = f.read()
-        new = re.sub(r"`([^`\n]*)`", lambda m: "`" + TOKEN.sub(lambda w: table.get(w[0], w[0]), m[1]) + "`", text)
-        if new != text:
-            with open(path, "w", encoding="utf-8") as f:
-                f.write(new)
+        text = read(path)
+        write(path, text, in_backticks(text, table))
     print(f"respell: {len(table)} names")
 
 

@@ -6,5 +6,6 @@ pub mod Written
 pub mod Tokens
 pub mod Lines
 pub mod Raw
+pub mod Meant
 pub mod Items
 pub mod Said

@@ -1,6 +1,8 @@
 // A written operation as it is handed in.
 ghost use Rattle.std.specs.Prelude.{◌≡◌};
 ghost use Rattle.lines.specs.Raw.{in_range, handed, raw_general, raw_predicate, raw_register, raw_destinations, raw_exit, raw_operand, raw_sources, raw_operation, operand_held, literals_held};
+ghost use Rattle.lines.specs.Meant.{exit_meant, registers_meant, registers_named};
+ghost use Rattle.blocks.specs.Exits.{exit_named};
 
 use crate::written::{
     WrittenExit, WrittenGeneral, WrittenOperand, WrittenOperation, WrittenPredicate,
@@ -69,9 +71,10 @@ fn destinations(written: UpToTwo<WrittenRegister>) -> UpToTwo<RegisterName>
 }
 
 impl WrittenExit {
-    // The exit as it is handed in.
+    // The exit as it is handed in: it names the block and the register that the line writes.
     pub fn raw(self) -> RawExit
-        ensures { result ≡ raw_exit self }
+        ensures value { result ≡ raw_exit self }
+        ensures meant { exit_named result ≡ exit_meant self }
     {
         match self {
             WrittenExit::Halt => RawExit::Halt,
@@ -136,8 +139,10 @@ impl WrittenSources {
 
 impl WrittenOperation {
     // The operation as it is handed in, with 0 for each literal that 32 bits do not hold.
+    #[tactic(auto, using(crate::proofs::Meaning::registers_kept))]
     pub fn raw(self) -> RawOperation
-        ensures { result ≡ raw_operation self }
+        ensures value { result ≡ raw_operation self }
+        ensures meant { registers_named result ≡ registers_meant self }
     {
         RawOperation {
             opcode: self.opcode,

@@ -23,7 +23,7 @@ use Rattle.lines.specs.declared.written.WrittenPredicate.TheVariants as predicat
 use Rattle.lines.specs.declared.written.WrittenRegister.{WrittenRegister}
 use Rattle.lines.specs.declared.written.WrittenRegister.TheVariants as name
 use Rattle.lines.specs.declared.written.WrittenExit.{WrittenExit}
-use Rattle.lines.specs.declared.written.WrittenExit.TheVariants as raw
+use Rattle.lines.specs.declared.written.WrittenExit.TheVariants as written
 use Rattle.lines.specs.declared.written.WrittenOperand.{WrittenOperand}
 use Rattle.lines.specs.declared.written.WrittenOperand.TheVariants.{Register, Literal}
 use Rattle.lines.specs.declared.written.WrittenSources.{WrittenSources}
@@ -41,18 +41,18 @@ abbrev pub written_predicate : Predicate → WrittenPredicate
 written_predicate (predicate.Static n) = predicate_name.Static n.number
 written_predicate (predicate.Rotating n) = predicate_name.Rotating n.number
 
-abbrev pub general_written : General → WrittenRegister
-general_written g = name.General (written_general g)
+abbrev pub general_register : General → WrittenRegister
+general_register g = name.General (written_general g)
 
-abbrev pub predicate_written : Predicate → WrittenRegister
-predicate_written p = name.Predicate (written_predicate p)
+abbrev pub predicate_register : Predicate → WrittenRegister
+predicate_register p = name.Predicate (written_predicate p)
 
 abbrev pub written_source : Source → WrittenOperand
-written_source (source.Register g) = Register (general_written g)
+written_source (source.Register g) = Register (general_register g)
 written_source (source.Literal z) = Literal z
 
 abbrev pub written_address : General → WrittenOperand
-written_address g = Register (general_written g)
+written_address g = Register (general_register g)
 
 abbrev pub written_sources : Form → WrittenSources
 written_sources (form.Binary o d a b) = Two (written_source a) (written_source b)
@@ -62,10 +62,10 @@ written_sources (form.Load d a) = One (written_address a)
 written_sources (form.Store a v) = Two (written_address a) (written_address v)
 
 abbrev pub written_destinations : Form → UpToTwo WrittenRegister
-written_destinations (form.Binary o d a b) = up_to.One (general_written d)
-written_destinations (form.Unary o d a) = up_to.One (general_written d)
-written_destinations (form.Compare c t a b) = up_to.Two (predicate_written t.first.to) (predicate_written t.second.to)
-written_destinations (form.Load d a) = up_to.One (general_written d)
+written_destinations (form.Binary o d a b) = up_to.One (general_register d)
+written_destinations (form.Unary o d a) = up_to.One (general_register d)
+written_destinations (form.Compare c t a b) = up_to.Two (predicate_register t.first.to) (predicate_register t.second.to)
+written_destinations (form.Load d a) = up_to.One (general_register d)
 written_destinations (form.Store a v) = up_to.Zero
 
 abbrev pub written_operation : Operation → WrittenOperation
@@ -80,11 +80,11 @@ abbrev pub written_position : Position → WrittenPosition
 written_position p = record { cycle = p.cycle; slot = p.slot }
 
 abbrev pub written_exit : Exit → WrittenExit
-written_exit exit.Halt = raw.Halt
-written_exit exit.Next = raw.Next
-written_exit (exit.Goto t) = raw.Goto t.number
-written_exit (exit.If p t) = raw.If (written_predicate p) t.number
-written_exit (exit.Loop t) = raw.Loop t.number
+written_exit exit.Halt = written.Halt
+written_exit exit.Next = written.Next
+written_exit (exit.Goto t) = written.Goto t.number
+written_exit (exit.If p t) = written.If (written_predicate p) t.number
+written_exit (exit.Loop t) = written.Loop t.number
 
 abbrev pub entry_line : Entry → ProgramLine
 entry_line e = line.Operation (option_map written_position e.position) (written_operation e.operation)
