@@ -51,15 +51,15 @@ block_handed n = by (ltb n 255) refl
     by true e = refl
     by false e = sym (no_block n (ltb n 16) refl (beyond_blocks n e))
 
-general_kept : (g : WrittenGeneral) → general_of (raw_general g) ≡ general_meant g
+pub general_kept : (g : WrittenGeneral) → general_of (raw_general g) ≡ general_meant g
 general_kept (general.Static n) = simp (register_handed n)
 general_kept (general.Rotating n) = simp (register_handed n)
 
-predicate_kept : (p : WrittenPredicate) → predicate_of (raw_predicate p) ≡ predicate_meant p
+pub predicate_kept : (p : WrittenPredicate) → predicate_of (raw_predicate p) ≡ predicate_meant p
 predicate_kept (predicate.Static n) = simp (register_handed n)
 predicate_kept (predicate.Rotating n) = simp (register_handed n)
 
-register_kept : (x : WrittenRegister) → register_of (raw_register x) ≡ register_meant x
+pub register_kept : (x : WrittenRegister) → register_of (raw_register x) ≡ register_meant x
 register_kept (register.General g) = simp (general_kept g)
 register_kept (register.Predicate p) = simp (predicate_kept p)
 

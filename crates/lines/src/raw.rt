@@ -1,7 +1,8 @@
 // A written operation as it is handed in.
 ghost use Rattle.std.specs.Prelude.{◌≡◌};
 ghost use Rattle.lines.specs.Raw.{in_range, handed, raw_general, raw_predicate, raw_register, raw_destinations, raw_exit, raw_operand, raw_sources, raw_operation, operand_held, literals_held};
-ghost use Rattle.lines.specs.Meant.{exit_meant, registers_meant, registers_named};
+ghost use Rattle.lines.specs.Meant.{general_meant, predicate_meant, register_meant, exit_meant, registers_meant, registers_named};
+ghost use Rattle.registers.specs.Names.{general_of, predicate_of, register_of};
 ghost use Rattle.blocks.specs.Exits.{exit_named};
 
 use crate::written::{
@@ -27,8 +28,9 @@ fn handed(number: u64) -> u8
 }
 
 impl WrittenGeneral {
-    fn raw(self) -> GeneralName
-        ensures { result ≡ raw_general self }
+    pub fn raw(self) -> GeneralName
+        ensures value { result ≡ raw_general self }
+        ensures meant { general_of result ≡ general_meant self }
     {
         match self {
             WrittenGeneral::Static(n) => GeneralName::Static(handed(n)),
@@ -38,8 +40,9 @@ impl WrittenGeneral {
 }
 
 impl WrittenPredicate {
-    fn raw(self) -> PredicateName
-        ensures { result ≡ raw_predicate self }
+    pub fn raw(self) -> PredicateName
+        ensures value { result ≡ raw_predicate self }
+        ensures meant { predicate_of result ≡ predicate_meant self }
     {
         match self {
             WrittenPredicate::Static(n) => PredicateName::Static(handed(n)),
@@ -49,8 +52,10 @@ impl WrittenPredicate {
 }
 
 impl WrittenRegister {
-    fn raw(self) -> RegisterName
-        ensures { result ≡ raw_register self }
+    #[tactic(auto, using(crate::proofs::Meaning::register_kept))]
+    pub fn raw(self) -> RegisterName
+        ensures value { result ≡ raw_register self }
+        ensures meant { register_of result ≡ register_meant self }
     {
         match self {
             WrittenRegister::General(g) => RegisterName::General(g.raw()),

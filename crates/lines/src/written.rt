@@ -3,19 +3,19 @@ use crate::mark::Mark;
 use operations::{Opcode, UpToTwo};
 
 // A register with any number, of which there may be none.
-#[derive(Clone, Copy)]
+#[derive(Clone, Copy, PartialEq, Eq, Debug)]
 pub enum WrittenGeneral {
     Static(u64),
     Rotating(u64),
 }
 
-#[derive(Clone, Copy)]
+#[derive(Clone, Copy, PartialEq, Eq, Debug)]
 pub enum WrittenPredicate {
     Static(u64),
     Rotating(u64),
 }
 
-#[derive(Clone, Copy)]
+#[derive(Clone, Copy, PartialEq, Eq, Debug)]
 pub enum WrittenRegister {
     General(WrittenGeneral),
     Predicate(WrittenPredicate),
