@@ -62,12 +62,12 @@ impl Action {
         match self {
             Action::Un => Some(guard && c),
             Action::Uc => Some(guard && !c),
-            Action::Cn => if guard { Some(c) } else { None },
-            Action::Cc => if guard { Some(!c) } else { None },
-            Action::On => if guard && c { Some(true) } else { None },
-            Action::Oc => if guard && !c { Some(true) } else { None },
-            Action::An => if guard && !c { Some(false) } else { None },
-            Action::Ac => if guard && c { Some(false) } else { None },
+            Action::Cn => guard.then_some(c),
+            Action::Cc => guard.then_some(!c),
+            Action::On => (guard && c).then_some(true),
+            Action::Oc => (guard && !c).then_some(true),
+            Action::An => (guard && !c).then_some(false),
+            Action::Ac => (guard && c).then_some(false),
         }
     }
 }

@@ -2,9 +2,8 @@
 use Rattle.std.proofs.Common.{◌≡◌, Bool, true, false, Some, Option, refl, ap, rules}
 use mathlib.Core.Bool.{Bool-set}
 use Rattle.opcodes.specs.declared.compare.Action.{Action}
-use Rattle.registers.specs.declared.register.Predicate.{Predicate}
 use Rattle.operations.specs.declared.targets.Targets.{Targets}
-use Rattle.registers.specs.Registers.{one_place}
+use Rattle.registers.specs.Registers.{Predicate, one_place}
 use Rattle.operations.specs.Typing.{apart, targets_of}
 
 abbrev made : (p q : Predicate) (a b : Action) → one_place p q ≡ false → Targets

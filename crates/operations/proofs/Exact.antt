@@ -4,22 +4,16 @@ use Rattle.std.proofs.Common.{◌≡◌, ℕ, Bool, true, false, cond, ltb, Some
 use Rattle.std.specs.Option.{option_map, option_zip, option_flatten}
 use Rattle.registers.proofs.Numbered.{number_there}
 use Rattle.registers.specs.declared.number.RegisterNumber.{RegisterNumber}
-use Rattle.registers.specs.declared.register.General as general
-use Rattle.registers.specs.declared.register.General.{General}
-use Rattle.registers.specs.declared.register.Predicate as predicate
-use Rattle.registers.specs.declared.register.Predicate.{Predicate}
-use Rattle.registers.specs.Registers.{numbered}
-use Rattle.registers.specs.Names.{general_of, predicate_of}
+use Rattle.registers.specs.declared.banked.Banked.{Banked}
+use Rattle.registers.specs.declared.banked.Banked.TheVariants as banked
+use Rattle.registers.specs.Registers.{General, Predicate, numbered}
+use Rattle.registers.specs.Names.{named}
 use Rattle.operations.specs.declared.operation.Source as source
 use Rattle.operations.specs.declared.operation.Source.{Source}
 use Rattle.operations.specs.declared.operation.Form.{Form}
 use Rattle.operations.specs.declared.operation.Form.TheVariants.{Binary, Unary, Compare, Load, Store}
 use Rattle.operations.specs.declared.operation.Operation.{Operation}
 use Rattle.operations.specs.declared.targets.Targets.{Targets}
-use Rattle.registers.specs.declared.names.GeneralName as general_name
-use Rattle.registers.specs.declared.names.GeneralName.{GeneralName}
-use Rattle.registers.specs.declared.names.PredicateName as predicate_name
-use Rattle.registers.specs.declared.names.PredicateName.{PredicateName}
 use Rattle.registers.specs.declared.names.RegisterName as name
 use Rattle.registers.specs.declared.names.RegisterName.{RegisterName}
 use Rattle.operations.specs.declared.raw.Opcode as opcode
@@ -34,37 +28,33 @@ use Rattle.operations.specs.declared.refusal.Refusal.TheVariants.{NoSuch, WrongO
 use Rattle.registers.specs.Registers.{below, one_place}
 use Rattle.opcodes.specs.declared.compare.Action.{Action}
 use Rattle.operations.specs.Typing.{general_named, predicate_named, source_of, address_of, zero, one, two, apart, known_operand, targets_of, form_of, guarded, typed_of}
-use Rattle.operations.specs.Raw.{name_of_general, name_of_predicate, named_general, named_predicate, raw_source, raw_address, raw_opcode, raw_destinations, raw_sources, raw_of, Accepts}
+use Rattle.operations.specs.Raw.{name_of, named_general, named_predicate, raw_source, raw_address, raw_opcode, raw_destinations, raw_sources, raw_of, Accepts}
 use Rattle.operations.proofs.Apart.{targets_there}
 
 number_back : (n : RegisterNumber) → numbered n.number ≡ Some n
 number_back n = sym (number_there n.number n.below (lt-ltb _ _ n.below))
 
-general_back : (g : General) → general_of (name_of_general g) ≡ Some g
-general_back (general.TheVariants.Static n) = ap (option_map general.TheVariants.Static) (number_back n)
-general_back (general.TheVariants.Rotating n) = ap (option_map general.TheVariants.Rotating) (number_back n)
-
-pub predicate_back : (p : Predicate) → predicate_of (name_of_predicate p) ≡ Some p
-predicate_back (predicate.TheVariants.Static n) = ap (option_map predicate.TheVariants.Static) (number_back n)
-predicate_back (predicate.TheVariants.Rotating n) = ap (option_map predicate.TheVariants.Rotating) (number_back n)
+pub name_back : {bits : ℕ} (x : Banked RegisterNumber bits) → named (name_of x) ≡ Some x
+name_back (banked.Static n) = ap (option_map banked.Static) (number_back n)
+name_back (banked.Rotating n) = ap (option_map banked.Rotating) (number_back n)
 
 source_back : (s : Source) → source_of (raw_source s) ≡ Some s
-source_back (source.TheVariants.Register g) = ap (option_map source.TheVariants.Register) (general_back g)
+source_back (source.TheVariants.Register g) = ap (option_map source.TheVariants.Register) (name_back g)
 source_back (source.TheVariants.Literal z) = refl
 
 operand_back : (s : Source) → known_operand (raw_source s) ≡ true
-operand_back (source.TheVariants.Register g) = rw (general_back g)
+operand_back (source.TheVariants.Register g) = rw (name_back g)
 operand_back (source.TheVariants.Literal z) = refl
 
 targets_back : (t : Targets) → targets_of t.first.action t.second.action (t.first.to, t.second.to) ≡ Some t
 targets_back t = sym (targets_there t.first.to t.second.to t.first.action t.second.action t.apart)
 
 typed_back : (g : Predicate) (f : Form) → typed_of (raw_of (record { guard = g; form = f })) ≡ Ok (record { guard = g; form = f })
-typed_back g (Binary o d a b) = simp (predicate_back g, general_back d, source_back a, source_back b, operand_back a, operand_back b)
-typed_back g (Unary o d a) = simp (predicate_back g, general_back d, source_back a, operand_back a)
-typed_back g (Compare c t a b) = simp (predicate_back g, predicate_back t.first.to, predicate_back t.second.to, targets_back t, source_back a, source_back b, operand_back a, operand_back b)
-typed_back g (Load d a) = simp (predicate_back g, general_back d, general_back a)
-typed_back g (Store a v) = simp (predicate_back g, general_back a, general_back v)
+typed_back g (Binary o d a b) = simp (name_back g, name_back d, source_back a, source_back b, operand_back a, operand_back b)
+typed_back g (Unary o d a) = simp (name_back g, name_back d, source_back a, operand_back a)
+typed_back g (Compare c t a b) = simp (name_back g, name_back t.first.to, name_back t.second.to, targets_back t, source_back a, source_back b, operand_back a, operand_back b)
+typed_back g (Load d a) = simp (name_back g, name_back d, name_back a)
+typed_back g (Store a v) = simp (name_back g, name_back a, name_back v)
 
 -- the other way: what an accepted one was handed in as
 
@@ -102,29 +92,21 @@ number_is n m e = by (ltb n 32) refl e
     by true t h = ap (λ (o : Option RegisterNumber). elim o [ None ↦ n | Some k ↦ k.number ]) (sym h)
     by false t h = nothing_is m h
 
-general_is : (n : GeneralName) (g : General) → general_of n ≡ Some g → name_of_general g ≡ n
-general_is (general_name.TheVariants.Static n) g e =
-    let s = mapped_some general.TheVariants.Static (numbered n) g e in
-    sym (ap name_of_general s.2) ∙ ap general_name.TheVariants.Static (number_is n s.0 s.1)
-general_is (general_name.TheVariants.Rotating n) g e =
-    let s = mapped_some general.TheVariants.Rotating (numbered n) g e in
-    sym (ap name_of_general s.2) ∙ ap general_name.TheVariants.Rotating (number_is n s.0 s.1)
-
-predicate_is : (n : PredicateName) (p : Predicate) → predicate_of n ≡ Some p → name_of_predicate p ≡ n
-predicate_is (predicate_name.TheVariants.Static n) p e =
-    let s = mapped_some predicate.TheVariants.Static (numbered n) p e in
-    sym (ap name_of_predicate s.2) ∙ ap predicate_name.TheVariants.Static (number_is n s.0 s.1)
-predicate_is (predicate_name.TheVariants.Rotating n) p e =
-    let s = mapped_some predicate.TheVariants.Rotating (numbered n) p e in
-    sym (ap name_of_predicate s.2) ∙ ap predicate_name.TheVariants.Rotating (number_is n s.0 s.1)
+name_is : {bits : ℕ} (n : Banked ℕ bits) (x : Banked RegisterNumber bits) → named n ≡ Some x → name_of x ≡ n
+name_is (banked.Static n) x e =
+    let s = mapped_some banked.Static (numbered n) x e in
+    sym (ap name_of s.2) ∙ ap banked.Static (number_is n s.0 s.1)
+name_is (banked.Rotating n) x e =
+    let s = mapped_some banked.Rotating (numbered n) x e in
+    sym (ap name_of s.2) ∙ ap banked.Rotating (number_is n s.0 s.1)
 
 general_named_is : (n : RegisterName) (g : General) → general_named n ≡ Some g → named_general g ≡ n
-general_named_is (name.TheVariants.General n) g e = ap name.TheVariants.General (general_is n g e)
+general_named_is (name.TheVariants.General n) g e = ap name.TheVariants.General (name_is n g e)
 general_named_is (name.TheVariants.Predicate n) g e = nothing_is g e
 
 predicate_named_is : (n : RegisterName) (p : Predicate) → predicate_named n ≡ Some p → named_predicate p ≡ n
 predicate_named_is (name.TheVariants.General n) p e = nothing_is p e
-predicate_named_is (name.TheVariants.Predicate n) p e = ap name.TheVariants.Predicate (predicate_is n p e)
+predicate_named_is (name.TheVariants.Predicate n) p e = ap name.TheVariants.Predicate (name_is n p e)
 
 source_is : (a : Operand) (s : Source) → source_of a ≡ Some s → raw_source s ≡ a
 source_is (operand.TheVariants.Register n) s e =
@@ -234,11 +216,11 @@ typed_parts true (Some g) (Some f) x e =
 
 typed_made : (q : RawOperation) (x : Operation) → typed_of q ≡ Ok x → raw_of x ≡ q
 typed_made q x e =
-    let t = typed_parts _ (predicate_of q.guard) (form_of q.opcode q.destinations q.sources) x e in
+    let t = typed_parts _ (named q.guard) (form_of q.opcode q.destinations q.sources) x e in
     let m = form_made q.opcode q.destinations q.sources x.form t.1 in
     λ i. record {
       opcode = m.opcodes i;
-      guard = predicate_is q.guard x.guard t.0 i;
+      guard = name_is q.guard x.guard t.0 i;
       destinations = m.destinations i;
       sources = m.sources i;
     }

@@ -4,7 +4,7 @@ use Rattle.std.specs.Option.{option_map, option_flatten}
 use Rattle.opcodes.specs.Compares.{holds, written}
 use Rattle.opcodes.specs.declared.compare.Action.{Action}
 use Rattle.opcodes.specs.declared.compare.Action.TheVariants.{Un, Uc, Cn, Cc, On, Oc, An, Ac}
-use Rattle.registers.specs.declared.register.Predicate.{Predicate}
+use Rattle.registers.specs.Registers.{Predicate}
 use Rattle.registers.specs.Writes.{bit_write}
 use Rattle.operations.specs.declared.effect.Effect.TheVariants as effect
 use Rattle.operations.specs.declared.operation.Form.{Form}

@@ -1,13 +1,10 @@
 -- An operation as it is handed in. Assumes nothing.
-use Rattle.std.specs.Prelude.{◌≡◌, ◌↔◌, Ok, Result}
-use Rattle.registers.specs.declared.register.General as general
-use Rattle.registers.specs.declared.register.General.{General}
-use Rattle.registers.specs.declared.register.Predicate as predicate
-use Rattle.registers.specs.declared.register.Predicate.{Predicate}
-use Rattle.registers.specs.declared.names.GeneralName as general_name
-use Rattle.registers.specs.declared.names.GeneralName.{GeneralName}
-use Rattle.registers.specs.declared.names.PredicateName as predicate_name
-use Rattle.registers.specs.declared.names.PredicateName.{PredicateName}
+use Rattle.std.specs.Prelude.{◌≡◌, ℕ, ◌↔◌, Ok, Result}
+use Rattle.registers.specs.declared.banked.Banked.{Banked}
+use Rattle.registers.specs.declared.banked.Banked.TheVariants as banked
+use Rattle.registers.specs.declared.number.RegisterNumber.{RegisterNumber}
+use Rattle.registers.specs.Registers.{General, Predicate}
+use Rattle.registers.specs.Names.{GeneralName, PredicateName}
 use Rattle.registers.specs.declared.names.RegisterName as name
 use Rattle.registers.specs.declared.names.RegisterName.{RegisterName}
 use Rattle.operations.specs.declared.operation.Source as source
@@ -24,13 +21,16 @@ use Rattle.operations.specs.declared.raw.UpToTwo.TheVariants.{Zero, One, Two}
 use Rattle.operations.specs.declared.raw.RawOperation.{RawOperation}
 use Rattle.operations.specs.declared.refusal.Refusal.{Refusal}
 
+-- a register by its name
+abbrev pub name_of : {bits : ℕ} → Banked RegisterNumber bits → Banked ℕ bits
+name_of (banked.Static n) = banked.Static n.number
+name_of (banked.Rotating n) = banked.Rotating n.number
+
 abbrev pub name_of_general : General → GeneralName
-name_of_general (general.TheVariants.Static n) = general_name.TheVariants.Static n.number
-name_of_general (general.TheVariants.Rotating n) = general_name.TheVariants.Rotating n.number
+name_of_general = name_of
 
 abbrev pub name_of_predicate : Predicate → PredicateName
-name_of_predicate (predicate.TheVariants.Static n) = predicate_name.TheVariants.Static n.number
-name_of_predicate (predicate.TheVariants.Rotating n) = predicate_name.TheVariants.Rotating n.number
+name_of_predicate = name_of
 
 abbrev pub named_general : General → RegisterName
 named_general g = name.TheVariants.General (name_of_general g)

@@ -3,8 +3,8 @@ use Rattle.std.specs.Prelude.{ℕ, cond, List, [], ◌++◌, codes, ◌==◌}
 use Rattle.std.specs.Fmt.{signed_decimal}
 use Rattle.opcodes.specs.declared.compare.Condition.{Condition}
 use Rattle.opcodes.specs.Texts.{binary_text, unary_text, condition_text, action_text}
-use Rattle.registers.specs.declared.register.Predicate as predicate
-use Rattle.registers.specs.declared.register.Predicate.{Predicate}
+use Rattle.registers.specs.declared.banked.Banked.TheVariants as banked
+use Rattle.registers.specs.Registers.{Predicate}
 use Rattle.registers.specs.Texts.{general_text, predicate_text}
 use Rattle.operations.specs.declared.operation.Source as source
 use Rattle.operations.specs.declared.operation.Source.{Source}
@@ -34,8 +34,8 @@ form_text (Store a v) = codes "S(" ++ (general_text a ++ (codes ", " ++ (general
 
 -- the guard p1 is left off
 abbrev pub guard_text : Predicate → List ℕ
-guard_text (predicate.TheVariants.Static n) = cond (n.number == 1) [] (codes " if " ++ predicate_text (predicate.TheVariants.Static n))
-guard_text (predicate.TheVariants.Rotating n) = codes " if " ++ predicate_text (predicate.TheVariants.Rotating n)
+guard_text (banked.Static n) = cond (n.number == 1) [] (codes " if " ++ predicate_text (banked.Static n))
+guard_text (banked.Rotating n) = codes " if " ++ predicate_text (banked.Rotating n)
 
 abbrev pub operation_text : Operation → List ℕ
 operation_text x = form_text x.form ++ guard_text x.guard

@@ -2,8 +2,6 @@
 use Rattle.std.specs.Prelude.{◌≡◌, Bool, true, false, cond, ◌&&◌, is_some, Some, None, Ok, Err, Option, Result, refl}
 use Rattle.std.specs.Option.{option_map, option_zip, option_flatten}
 use Rattle.opcodes.specs.declared.compare.Action.{Action}
-use Rattle.registers.specs.declared.register.General.{General}
-use Rattle.registers.specs.declared.register.Predicate.{Predicate}
 use Rattle.registers.specs.declared.names.RegisterName as name
 use Rattle.registers.specs.declared.names.RegisterName.{RegisterName}
 use Rattle.operations.specs.declared.operation.Source as source
@@ -21,7 +19,7 @@ use Rattle.operations.specs.declared.raw.RawOperation.{RawOperation}
 use Rattle.operations.specs.declared.refusal.Refusal.{Refusal}
 use Rattle.operations.specs.declared.refusal.Refusal.TheVariants.{NoSuch, WrongOperands}
 use Rattle.operations.specs.declared.targets.Targets.{Targets}
-use Rattle.registers.specs.Registers.{one_place}
+use Rattle.registers.specs.Registers.{General, Predicate, one_place}
 use Rattle.registers.specs.Names.{general_of, predicate_of, register_of}
 
 -- the register of that name, where it is a general one; where it is a predicate

@@ -36,10 +36,7 @@ pub enum Class {
 fn is_at(found: Option<Place>, place: Place) -> bool
     ensures { result ≡ is_place place found }
 {
-    match found {
-        Some(p) => p == place,
-        None => false,
-    }
+    found == Some(place)
 }
 
 impl Reads {
@@ -84,16 +81,6 @@ impl Source {
     }
 }
 
-// The place of a source, where there is one.
-fn place_of(source: Option<Source>) -> Option<Place>
-    ensures { result ≡ option_flatten (option_map source_place source) }
-{
-    match source {
-        Some(s) => s.place(),
-        None => None,
-    }
-}
-
 impl Operation {
     // Source 1 and source 2; of a store, the address and the value.
     pub fn sources(&self) -> (Option<Source>, Option<Source>)
@@ -124,19 +111,13 @@ impl Operation {
     fn memory_read(&self) -> Option<Place>
         ensures { result ≡ memory_read self.now.form }
     {
-        match self.form {
-            Form::Load { .. } => Some(Place::Memory),
-            _ => None,
-        }
+        matches!(self.form, Form::Load { .. }).then_some(Place::Memory)
     }
 
     fn memory_written(&self) -> Option<Place>
         ensures { result ≡ memory_written self.now.form }
     {
-        match self.form {
-            Form::Store { .. } => Some(Place::Memory),
-            _ => None,
-        }
+        matches!(self.form, Form::Store { .. }).then_some(Place::Memory)
     }
 
     // Destination 1 and destination 2, each where it is a place.
@@ -158,8 +139,8 @@ impl Operation {
         let (first, second) = self.sources();
         Reads {
             guard: self.guard.place(),
-            first: place_of(first),
-            second: place_of(second),
+            first: first.and_then(Source::place),
+            second: second.and_then(Source::place),
             memory: self.memory_read(),
         }
     }

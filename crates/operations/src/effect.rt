@@ -19,10 +19,7 @@ impl Target {
     fn write(self, guard: bool, c: bool) -> Option<Write>
         ensures { result ≡ target_write self guard c }
     {
-        match self.action.write(guard, c) {
-            Some(value) => self.to.write(value),
-            None => None,
-        }
+        self.to.write(self.action.write(guard, c)?)
     }
 }
 

@@ -1,5 +1,5 @@
 // A raw operation as a typed one, or why it is none.
-ghost use Rattle.std.specs.Prelude.{◌≡◌};
+ghost use Rattle.std.specs.Prelude.{◌≡◌, Bool, Option};
 ghost use Rattle.std.specs.Option.{option_map, option_flatten};
 ghost use Rattle.registers.specs.Registers.{one_place};
 ghost use Rattle.operations.specs.Raw.{Accepts};
@@ -12,55 +12,101 @@ use crate::targets::{Target, Targets};
 use opcodes::Action;
 use registers::{General, Predicate, RegisterName};
 
-fn general(name: RegisterName) -> Option<General>
-    ensures { result ≡ general_named name }
-{
-    match name {
-        RegisterName::General(name) => name.register(),
-        RegisterName::Predicate(_) => None,
-    }
-}
-
-fn predicate(name: RegisterName) -> Option<Predicate>
-    ensures { result ≡ predicate_named name }
-{
-    match name {
-        RegisterName::General(_) => None,
-        RegisterName::Predicate(name) => name.register(),
-    }
-}
-
-impl Operand {
-    fn source(self) -> Option<Source>
-        ensures { result ≡ source_of self }
-    {
-        match self {
-            Operand::Register(name) => Some(Source::Register(general(name)?)),
-            Operand::Literal(z) => Some(Source::Literal(z)),
-        }
-    }
-
-    // A general register: what a load and a store take.
-    fn address(self) -> Option<General>
-        ensures { result ≡ address_of self }
-    {
-        match self {
-            Operand::Register(name) => general(name),
-            Operand::Literal(_) => None,
-        }
-    }
+// What can name registers.
+trait Named: Copy {
+    // Whether there is each register that it names.
+    ghost known: { Self → Bool };
 
     fn exists(self) -> bool
-        ensures { result ≡ known_operand self }
-    {
+        ensures { result ≡ known self };
+}
+
+// What can stand where a `T` is wanted.
+trait Means<T>: Copy {
+    // The `T` that it means, where it means one.
+    ghost meant: { Self → Option T };
+
+    fn meant(self) -> Option<T>
+        ensures { result ≡ meant self };
+}
+
+impl Named for RegisterName {
+    ghost known = { known_name };
+
+    fn exists(self) -> bool {
+        self.register().is_some()
+    }
+}
+
+impl Named for Operand {
+    ghost known = { known_operand };
+
+    fn exists(self) -> bool {
         match self {
-            Operand::Register(name) => name.register().is_some(),
+            Operand::Register(name) => name.exists(),
             Operand::Literal(_) => true,
         }
     }
 }
 
-impl UpToTwo<RegisterName> {
+impl Means<General> for RegisterName {
+    ghost meant = { general_named };
+
+    fn meant(self) -> Option<General> {
+        match self {
+            RegisterName::General(name) => name.register(),
+            RegisterName::Predicate(_) => None,
+        }
+    }
+}
+
+impl Means<Predicate> for RegisterName {
+    ghost meant = { predicate_named };
+
+    fn meant(self) -> Option<Predicate> {
+        match self {
+            RegisterName::General(_) => None,
+            RegisterName::Predicate(name) => name.register(),
+        }
+    }
+}
+
+impl Means<Source> for Operand {
+    ghost meant = { source_of };
+
+    fn meant(self) -> Option<Source> {
+        match self {
+            Operand::Register(name) => Some(Source::Register(name.meant()?)),
+            Operand::Literal(z) => Some(Source::Literal(z)),
+        }
+    }
+}
+
+// A general register: what a load and a store take.
+impl Means<General> for Operand {
+    ghost meant = { address_of };
+
+    fn meant(self) -> Option<General> {
+        match self {
+            Operand::Register(name) => name.meant(),
+            Operand::Literal(_) => None,
+        }
+    }
+}
+
+impl<N: Named> UpToTwo<N> {
+    fn exist(self) -> bool
+        ensures { result ≡ each N.known self }
+    {
+        match self {
+            UpToTwo::Zero => true,
+            UpToTwo::One(a) => a.exists(),
+            UpToTwo::Two(a, b) => a.exists() && b.exists(),
+        }
+    }
+}
+
+impl<N: Copy> UpToTwo<N> {
     fn zero(self) -> Option<()>
         ensures { result ≡ zero self }
     {
@@ -70,79 +116,25 @@ impl UpToTwo<RegisterName> {
         }
     }
 
-    fn one_general(self) -> Option<General>
-        ensures { result ≡ one general_named self }
+    fn one<T>(self) -> Option<T>
+    where
+        N: Means<T>,
+        ensures { result ≡ one N.meant self }
     {
         match self {
-            UpToTwo::One(name) => general(name),
+            UpToTwo::One(a) => a.meant(),
             _ => None,
         }
     }
 
-    fn two_predicates(self) -> Option<(Predicate, Predicate)>
-        ensures { result ≡ two predicate_named self }
+    fn two<T: Drop>(self) -> Option<(T, T)>
+    where
+        N: Means<T>,
+        ensures { result ≡ two N.meant self }
     {
         match self {
-            UpToTwo::Two(a, b) => Some((predicate(a)?, predicate(b)?)),
+            UpToTwo::Two(a, b) => Some((a.meant()?, b.meant()?)),
             _ => None,
-        }
-    }
-
-    fn exist(self) -> bool
-        ensures { result ≡ each known_name self }
-    {
-        match self {
-            UpToTwo::Zero => true,
-            UpToTwo::One(a) => a.register().is_some(),
-            UpToTwo::Two(a, b) => a.register().is_some() && b.register().is_some(),
-        }
-    }
-}
-
-impl UpToTwo<Operand> {
-    fn one_source(self) -> Option<Source>
-        ensures { result ≡ one source_of self }
-    {
-        match self {
-            UpToTwo::One(a) => a.source(),
-            _ => None,
-        }
-    }
-
-    fn two_sources(self) -> Option<(Source, Source)>
-        ensures { result ≡ two source_of self }
-    {
-        match self {
-            UpToTwo::Two(a, b) => Some((a.source()?, b.source()?)),
-            _ => None,
-        }
-    }
-
-    fn one_address(self) -> Option<General>
-        ensures { result ≡ one address_of self }
-    {
-        match self {
-            UpToTwo::One(a) => a.address(),
-            _ => None,
-        }
-    }
-
-    fn two_addresses(self) -> Option<(General, General)>
-        ensures { result ≡ two address_of self }
-    {
-        match self {
-            UpToTwo::Two(a, b) => Some((a.address()?, b.address()?)),
-            _ => None,
-        }
-    }
-
-    fn exist(self) -> bool
-        ensures { result ≡ each known_operand self }
-    {
-        match self {
-            UpToTwo::Zero => true,
-            UpToTwo::One(a) => a.exists(),
-            UpToTwo::Two(a, b) => a.exists() && b.exists(),
         }
     }
 }
@@ -170,7 +162,7 @@ impl UpToTwo<RegisterName> {
     fn targets(self, a: Action, b: Action) -> Option<Targets>
         ensures { result ≡ option_flatten (option_map (targets_of a b) (two predicate_named self)) }
     {
-        let (p, q) = self.two_predicates()?;
+        let (p, q) = self.two()?;
         unless_one(Target { to: p, action: a }, Target { to: q, action: b })
     }
 }
@@ -189,8 +181,8 @@ impl RawOperation {
     {
         match self.opcode {
             Opcode::Binary(opcode) => {
-                let to = self.destinations.one_general()?;
-                let (first, second) = self.sources.two_sources()?;
+                let to = self.destinations.one()?;
+                let (first, second) = self.sources.two()?;
                 Some(Form::Binary {
                     opcode,
                     to,
@@ -199,13 +191,13 @@ impl RawOperation {
                 })
             }
             Opcode::Unary(opcode) => {
-                let to = self.destinations.one_general()?;
-                let source = self.sources.one_source()?;
+                let to = self.destinations.one()?;
+                let source = self.sources.one()?;
                 Some(Form::Unary { opcode, to, source })
             }
             Opcode::Compare(condition, a, b) => {
                 let targets = self.destinations.targets(a, b)?;
-                let (first, second) = self.sources.two_sources()?;
+                let (first, second) = self.sources.two()?;
                 Some(Form::Compare {
                     condition,
                     targets,
@@ -214,13 +206,13 @@ impl RawOperation {
                 })
             }
             Opcode::Load => {
-                let to = self.destinations.one_general()?;
-                let address = self.sources.one_address()?;
+                let to = self.destinations.one()?;
+                let address = self.sources.one()?;
                 Some(Form::Load { to, address })
             }
             Opcode::Store => {
                 self.destinations.zero()?;
-                let (address, value) = self.sources.two_addresses()?;
+                let (address, value) = self.sources.two()?;
                 Some(Form::Store { address, value })
             }
         }
@@ -232,13 +224,9 @@ impl RawOperation {
         if !self.names_exist() {
             return Err(Refusal::NoSuch);
         }
-        let Some(guard) = self.guard.register() else {
-            return Err(Refusal::NoSuch);
-        };
-        match self.form() {
-            Some(form) => Ok(Operation { guard, form }),
-            None => Err(Refusal::WrongOperands),
-        }
+        let guard = self.guard.register().ok_or(Refusal::NoSuch)?;
+        let form = self.form().ok_or(Refusal::WrongOperands)?;
+        Ok(Operation { guard, form })
     }
 
     // The typed operation. Refused where a register is missing, and then where the operands do not fit the opcode.

@@ -2,3 +2,4 @@ pub mod Registers
 pub mod Names
 pub mod Writes
 pub mod Texts
+pub mod Equality

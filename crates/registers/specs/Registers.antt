@@ -1,15 +1,20 @@
 -- Registers: their numbers, what the fixed ones read, which are places, and where the rotating ones are. Assumes nothing.
-use Rattle.std.specs.Prelude.{◌≡◌, ℕ, ◌+◌, ◌%◌, Bool, true, false, cond, ◌&&◌, is_some, Some, None, Decides, Option, ◌==◌, nat_lt, refl}
+use Rattle.std.specs.Prelude.{◌≡◌, ℕ, ◌+◌, ◌%◌, Bool, true, false, cond, ◌&&◌, is_some, Some, None, Option, ◌==◌, nat_lt, refl}
 use Rattle.std.proofs.Common.{arith, ltb-true}
 use Rattle.registers.specs.declared.number.RegisterNumber.{RegisterNumber}
-use Rattle.registers.specs.declared.register.General as general
-use Rattle.registers.specs.declared.register.General.{General}
-use Rattle.registers.specs.declared.register.Predicate as predicate
-use Rattle.registers.specs.declared.register.Predicate.{Predicate}
+use Rattle.registers.specs.declared.banked.Banked.{Banked}
+use Rattle.registers.specs.declared.banked.Banked.TheVariants as banked
 use Rattle.registers.specs.declared.register.Register as register
 use Rattle.registers.specs.declared.register.Register.{Register}
 use Rattle.registers.specs.declared.register.Place.{Place}
 use Rattle.registers.specs.declared.register.Place.TheVariants as place
+
+-- a register of 32 bits, and one of one bit
+abbrev pub General : Type 0
+General = Banked RegisterNumber 32
+
+abbrev pub Predicate : Type 0
+Predicate = Banked RegisterNumber 1
 
 abbrev pub below : (n : ℕ) (b : Bool) → nat_lt n 32 ≡ b → Option RegisterNumber
 below n true e = Some (record { number = n; below = ltb-true n 32 e })
@@ -25,50 +30,44 @@ rotated k base = record { number = (k.number + base.number) % 32; below = omega 
 
 -- r0 reads 0
 abbrev pub general_constant : General → Option ℕ
-general_constant (general.TheVariants.Static n) = cond (n.number == 0) (Some 0) None
-general_constant (general.TheVariants.Rotating n) = None
+general_constant (banked.Static n) = cond (n.number == 0) (Some 0) None
+general_constant (banked.Rotating n) = None
 
 -- p0 reads 0, p1 reads 1
 abbrev pub predicate_constant : Predicate → Option Bool
-predicate_constant (predicate.TheVariants.Static n) = cond (n.number == 0) (Some false) (cond (n.number == 1) (Some true) None)
-predicate_constant (predicate.TheVariants.Rotating n) = None
+predicate_constant (banked.Static n) = cond (n.number == 0) (Some false) (cond (n.number == 1) (Some true) None)
+predicate_constant (banked.Rotating n) = None
 
 -- any register but r0, p0 and p1 is a place
 abbrev pub general_place : General → Option Place
-general_place (general.TheVariants.Static n) = cond (n.number == 0) None (Some (place.Register (register.TheVariants.General (general.TheVariants.Static n))))
-general_place (general.TheVariants.Rotating n) = Some (place.Register (register.TheVariants.General (general.TheVariants.Rotating n)))
+general_place (banked.Static n) = cond (n.number == 0) None (Some (place.Register (register.TheVariants.General (banked.Static n))))
+general_place (banked.Rotating n) = Some (place.Register (register.TheVariants.General (banked.Rotating n)))
 
 abbrev pub predicate_place : Predicate → Option Place
-predicate_place (predicate.TheVariants.Static n) = cond (nat_lt n.number 2) None (Some (place.Register (register.TheVariants.Predicate (predicate.TheVariants.Static n))))
-predicate_place (predicate.TheVariants.Rotating n) = Some (place.Register (register.TheVariants.Predicate (predicate.TheVariants.Rotating n)))
+predicate_place (banked.Static n) = cond (nat_lt n.number 2) None (Some (place.Register (register.TheVariants.Predicate (banked.Static n))))
+predicate_place (banked.Rotating n) = Some (place.Register (register.TheVariants.Predicate (banked.Rotating n)))
 
-abbrev pub physical_general : RegisterNumber → General → General
-physical_general rrb (general.TheVariants.Static n) = general.TheVariants.Static n
-physical_general rrb (general.TheVariants.Rotating n) = general.TheVariants.Rotating (rotated n rrb)
+-- the register that holds it, while the base is rrb
+abbrev pub physical : {bits : ℕ} → RegisterNumber → Banked RegisterNumber bits → Banked RegisterNumber bits
+physical rrb (banked.Static n) = banked.Static n
+physical rrb (banked.Rotating n) = banked.Rotating (rotated n rrb)
 
-abbrev pub physical_predicate : RegisterNumber → Predicate → Predicate
-physical_predicate rrb (predicate.TheVariants.Static n) = predicate.TheVariants.Static n
-physical_predicate rrb (predicate.TheVariants.Rotating n) = predicate.TheVariants.Rotating (rotated n rrb)
-
--- an answer that is this test, and tells whether a fact holds
-abbrev pub Tells : Bool → Bool → Type 0 → Type 0
-Tells test r P = (r ≡ test) × Decides r P
+-- two registers of one kind that are one
+abbrev pub same : {bits : ℕ} → Banked RegisterNumber bits → Banked RegisterNumber bits → Bool
+same (banked.Static m) (banked.Static n) = m.number == n.number
+same (banked.Static m) (banked.Rotating n) = false
+same (banked.Rotating m) (banked.Static n) = false
+same (banked.Rotating m) (banked.Rotating n) = m.number == n.number
 
 abbrev pub same_predicate : Predicate → Predicate → Bool
-same_predicate (predicate.TheVariants.Static m) (predicate.TheVariants.Static n) = m.number == n.number
-same_predicate (predicate.TheVariants.Static m) (predicate.TheVariants.Rotating n) = false
-same_predicate (predicate.TheVariants.Rotating m) (predicate.TheVariants.Static n) = false
-same_predicate (predicate.TheVariants.Rotating m) (predicate.TheVariants.Rotating n) = m.number == n.number
+same_predicate = same
+
+abbrev pub same_general : General → General → Bool
+same_general = same
 
 -- two predicates that are one place; p0 and p1 are none
 abbrev pub one_place : Predicate → Predicate → Bool
 one_place p q = is_some (predicate_place p) && same_predicate p q
-
-abbrev pub same_general : General → General → Bool
-same_general (general.TheVariants.Static m) (general.TheVariants.Static n) = m.number == n.number
-same_general (general.TheVariants.Static m) (general.TheVariants.Rotating n) = false
-same_general (general.TheVariants.Rotating m) (general.TheVariants.Static n) = false
-same_general (general.TheVariants.Rotating m) (general.TheVariants.Rotating n) = m.number == n.number
 
 abbrev pub same_register : Register → Register → Bool
 same_register (register.TheVariants.General g) (register.TheVariants.General h) = same_general g h

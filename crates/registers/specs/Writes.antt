@@ -1,11 +1,9 @@
 -- Writes to registers. Assumes nothing.
 use Rattle.std.specs.Prelude.{ℕ, Bool, Option}
 use Rattle.std.specs.Option.{option_map}
-use Rattle.registers.specs.declared.register.General.{General}
-use Rattle.registers.specs.declared.register.Predicate.{Predicate}
 use Rattle.registers.specs.declared.write.Write.{Write}
 use Rattle.registers.specs.declared.write.Write.TheVariants.{Word, Bit}
-use Rattle.registers.specs.Registers.{general_place, predicate_place}
+use Rattle.registers.specs.Registers.{General, Predicate, general_place, predicate_place}
 
 -- a write to a register; to one that is no place it is dropped
 abbrev pub word_write : General → ℕ → Option Write

@@ -1,14 +1,17 @@
 // Registers, the names that they are given from outside, places, and writes to registers.
 #![tactic(auto)]
 
+mod banked;
+mod equality;
 mod names;
 mod number;
 mod register;
-mod same;
 mod text;
 mod write;
 
-pub use names::{GeneralName, PredicateName, RegisterName};
+pub use banked::{Banked, General, GeneralName, Predicate, PredicateName};
+pub use equality::equality_tells;
+pub use names::RegisterName;
 pub use number::RegisterNumber;
-pub use register::{General, Place, Predicate, Register};
+pub use register::{Place, Register};
 pub use write::Write;

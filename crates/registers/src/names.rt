@@ -1,21 +1,10 @@
 // Registers as they are named from outside, with any number.
 ghost use Rattle.std.specs.Prelude.{◌≡◌};
-ghost use Rattle.registers.specs.Names.{general_of, predicate_of, register_of};
+ghost use Rattle.registers.specs.Names.{named, register_of};
 
+use crate::banked::{Banked, GeneralName, PredicateName};
 use crate::number::RegisterNumber;
-use crate::register::{General, Predicate, Register};
-
-#[derive(Clone, Copy, PartialEq, Eq, Debug)]
-pub enum GeneralName {
-    Static(u8),
-    Rotating(u8),
-}
-
-#[derive(Clone, Copy, PartialEq, Eq, Debug)]
-pub enum PredicateName {
-    Static(u8),
-    Rotating(u8),
-}
+use crate::register::Register;
 
 #[derive(Clone, Copy, PartialEq, Eq, Debug)]
 pub enum RegisterName {
@@ -23,26 +12,14 @@ pub enum RegisterName {
     Predicate(PredicateName),
 }
 
-impl GeneralName {
+impl<const BITS: usize> Banked<u8, BITS> {
     // The register of that name, where there is one.
-    pub fn register(self) -> Option<General>
-        ensures { result ≡ general_of self }
+    pub fn register(self) -> Option<Banked<RegisterNumber, BITS>>
+        ensures { result ≡ named self.entry }
     {
         match self {
-            GeneralName::Static(n) => Some(General::Static(RegisterNumber::new(n)?)),
-            GeneralName::Rotating(n) => Some(General::Rotating(RegisterNumber::new(n)?)),
-        }
-    }
-}
-
-impl PredicateName {
-    // The register of that name, where there is one.
-    pub fn register(self) -> Option<Predicate>
-        ensures { result ≡ predicate_of self }
-    {
-        match self {
-            PredicateName::Static(n) => Some(Predicate::Static(RegisterNumber::new(n)?)),
-            PredicateName::Rotating(n) => Some(Predicate::Rotating(RegisterNumber::new(n)?)),
+            Banked::Static(n) => Some(Banked::Static(RegisterNumber::new(n)?)),
+            Banked::Rotating(n) => Some(Banked::Rotating(RegisterNumber::new(n)?)),
         }
     }
 }

@@ -1,34 +1,21 @@
 // Registers and places.
 ghost use Rattle.std.specs.Prelude.{◌≡◌, ◌+◌, ◌%◌, not, is_some};
-ghost use Rattle.registers.specs.Registers.{numbered, general_place, predicate_place, general_constant, predicate_constant, physical_general, physical_predicate};
+ghost use Rattle.registers.specs.Registers.{numbered, general_place, predicate_place, general_constant, predicate_constant, physical};
 
+use crate::banked::{Banked, General, Predicate};
 use crate::number::RegisterNumber;
 
 // How many registers a bank has.
 const REGISTERS: u8 = 32;
 
-// A register of 32 bits.
-#[derive(Clone, Copy, Debug)]
-pub enum General {
-    Static(RegisterNumber),
-    Rotating(RegisterNumber),
-}
-
-// A register of one bit.
-#[derive(Clone, Copy, Debug)]
-pub enum Predicate {
-    Static(RegisterNumber),
-    Rotating(RegisterNumber),
-}
-
-#[derive(Clone, Copy, Debug)]
+#[derive(Clone, Copy, PartialEq, Eq, Debug)]
 pub enum Register {
     General(General),
     Predicate(Predicate),
 }
 
 // What can be written and read back: a register that is no constant, or the memory as a whole.
-#[derive(Clone, Copy, Debug)]
+#[derive(Clone, Copy, PartialEq, Eq, Debug)]
 pub enum Place {
     Register(Register),
     Memory,
@@ -55,13 +42,25 @@ impl RegisterNumber {
     }
 }
 
+impl<const BITS: usize> Banked<RegisterNumber, BITS> {
+    // The register that holds it while the base is `rrb`.
+    pub fn physical(self, rrb: RegisterNumber) -> Banked<RegisterNumber, BITS>
+        ensures { result ≡ physical rrb self.entry }
+    {
+        match self {
+            Banked::Static(_) => self,
+            Banked::Rotating(n) => Banked::Rotating(n.rotated(rrb)),
+        }
+    }
+}
+
 impl General {
     // What it always reads, where that is fixed: r0 reads 0.
     pub fn constant(self) -> Option<u32>
         ensures { result ≡ general_constant self }
     {
         match self {
-            General::Static(n) => if n.number == 0 { Some(0) } else { None },
+            General::Static(n) => (n.number == 0).then_some(0),
             General::Rotating(_) => None,
         }
     }
@@ -71,20 +70,8 @@ impl General {
         ensures value { result ≡ general_place self }
         ensures test { is_some result ≡ not (is_some (general_constant self)) }
     {
-        match self.constant() {
-            Some(_) => None,
-            None => Some(Place::Register(Register::General(self))),
-        }
-    }
-
-    // The register that holds it while the base is `rrb`.
-    pub fn physical(self, rrb: RegisterNumber) -> General
-        ensures { result ≡ physical_general rrb self }
-    {
-        match self {
-            General::Static(_) => self,
-            General::Rotating(n) => General::Rotating(n.rotated(rrb)),
-        }
+        let place = Place::Register(Register::General(self));
+        self.constant().is_none().then_some(place)
     }
 }
 
@@ -108,19 +95,7 @@ impl Predicate {
         ensures value { result ≡ predicate_place self }
         ensures test { is_some result ≡ not (is_some (predicate_constant self)) }
     {
-        match self.constant() {
-            Some(_) => None,
-            None => Some(Place::Register(Register::Predicate(self))),
-        }
-    }
-
-    // The register that holds it while the base is `rrb`.
-    pub fn physical(self, rrb: RegisterNumber) -> Predicate
-        ensures { result ≡ physical_predicate rrb self }
-    {
-        match self {
-            Predicate::Static(_) => self,
-            Predicate::Rotating(n) => Predicate::Rotating(n.rotated(rrb)),
-        }
+        let place = Place::Register(Register::Predicate(self));
+        self.constant().is_none().then_some(place)
     }
 }

@@ -1,23 +1,28 @@
 // Registers and places as text.
-ghost use Rattle.std.specs.Prelude.{Some};
+ghost use Rattle.std.specs.Prelude.{Some, decimal};
 ghost use Rattle.registers.specs.Texts.{general_text, predicate_text, register_text, place_text};
 
-use crate::register::{General, Place, Predicate, Register};
+use crate::banked::{General, Predicate};
+use crate::number::RegisterNumber;
+use crate::register::{Place, Register};
 use std::fmt;
 
+impl fmt::Display for RegisterNumber {
+    ghost output = { λ n. Some (decimal n.number) };
+
+    fn fmt<W: fmt::Write>(&self, f: &mut fmt::Formatter<W>) -> fmt::Result {
+        self.number.fmt(f)
+    }
+}
+
+// One impl for both kinds would have to find a letter for every width.
 impl fmt::Display for General {
     ghost output = { λ g. Some (general_text g) };
 
     fn fmt<W: fmt::Write>(&self, f: &mut fmt::Formatter<W>) -> fmt::Result {
         match *self {
-            General::Static(n) => {
-                let number = n.get();
-                write!(f, "r{number}")
-            }
-            General::Rotating(n) => {
-                let number = n.get();
-                write!(f, "rr{number}")
-            }
+            General::Static(n) => write!(f, "r{n}"),
+            General::Rotating(n) => write!(f, "rr{n}"),
         }
     }
 }
@@ -27,14 +32,8 @@ impl fmt::Display for Predicate {
 
     fn fmt<W: fmt::Write>(&self, f: &mut fmt::Formatter<W>) -> fmt::Result {
         match *self {
-            Predicate::Static(n) => {
-                let number = n.get();
-                write!(f, "p{number}")
-            }
-            Predicate::Rotating(n) => {
-                let number = n.get();
-                write!(f, "rp{number}")
-            }
+            Predicate::Static(n) => write!(f, "p{n}"),
+            Predicate::Rotating(n) => write!(f, "rp{n}"),
         }
     }
 }

@@ -2,7 +2,7 @@
 ghost use Rattle.std.specs.Prelude.{◌≡◌};
 ghost use Rattle.registers.specs.Writes.{word_write, bit_write};
 
-use crate::register::{General, Predicate};
+use crate::banked::{General, Predicate};
 
 // A value for a register that is a place.
 #[derive(Clone, Copy)]
@@ -16,10 +16,8 @@ impl General {
     pub fn write(self, value: u32) -> Option<Write>
         ensures { result ≡ word_write self value }
     {
-        if self.constant().is_some() {
-            return None;
-        }
-        Some(Write::Word { to: self, value })
+        let write = Write::Word { to: self, value };
+        self.constant().is_none().then_some(write)
     }
 }
 
@@ -28,9 +26,7 @@ impl Predicate {
     pub fn write(self, value: bool) -> Option<Write>
         ensures { result ≡ bit_write self value }
     {
-        if self.constant().is_some() {
-            return None;
-        }
-        Some(Write::Bit { to: self, value })
+        let write = Write::Bit { to: self, value };
+        self.constant().is_none().then_some(write)
     }
 }
