@@ -3,10 +3,9 @@
 use Rattle.std.proofs.Common.{◌≡◌, ℕ, Bool, true, false, cond, ltb, Some, None, Ok, Err, Option, Result, sym, refl, ap, ◌∙◌, ap₂, arith, lt-ltb}
 use Rattle.std.specs.Option.{option_map, option_zip, option_flatten}
 use Rattle.registers.proofs.Numbered.{number_there}
-use Rattle.registers.specs.declared.number.RegisterNumber.{RegisterNumber}
 use Rattle.registers.specs.declared.banked.Banked.{Banked}
 use Rattle.registers.specs.declared.banked.Banked.TheVariants as banked
-use Rattle.registers.specs.Registers.{General, Predicate, numbered}
+use Rattle.registers.specs.Registers.{RegisterNumber, General, Predicate, numbered}
 use Rattle.registers.specs.Names.{named}
 use Rattle.operations.specs.declared.operation.Source as source
 use Rattle.operations.specs.declared.operation.Source.{Source}

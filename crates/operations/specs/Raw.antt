@@ -2,8 +2,7 @@
 use Rattle.std.specs.Prelude.{◌≡◌, ℕ, ◌↔◌, Ok, Result}
 use Rattle.registers.specs.declared.banked.Banked.{Banked}
 use Rattle.registers.specs.declared.banked.Banked.TheVariants as banked
-use Rattle.registers.specs.declared.number.RegisterNumber.{RegisterNumber}
-use Rattle.registers.specs.Registers.{General, Predicate}
+use Rattle.registers.specs.Registers.{RegisterNumber, General, Predicate}
 use Rattle.registers.specs.Names.{GeneralName, PredicateName}
 use Rattle.registers.specs.declared.names.RegisterName as name
 use Rattle.registers.specs.declared.names.RegisterName.{RegisterName}

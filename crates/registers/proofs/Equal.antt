@@ -1,13 +1,12 @@
 -- The tests of equality tell equality. Assumes nothing.
 use Rattle.std.proofs.Common.{◌≡◌, ℕ, true, false, refl, ap, arith, eq-eqb, eqb-true}
+use Rattle.registers.specs.declared.register.Register.{Register}
 use Rattle.registers.specs.declared.banked.Banked.{Banked}
 use Rattle.registers.specs.declared.banked.Banked.TheVariants as banked
-use Rattle.registers.specs.declared.number.RegisterNumber.{RegisterNumber}
 use Rattle.registers.specs.declared.register.Register as register
-use Rattle.registers.specs.declared.register.Register.{Register}
 use Rattle.registers.specs.declared.register.Place as place
 use Rattle.registers.specs.declared.register.Place.{Place}
-use Rattle.registers.specs.Registers.{same, same_register, same_place}
+use Rattle.registers.specs.Registers.{RegisterNumber, same, same_register, same_place}
 use Rattle.registers.proofs.Numbered.{numbers_agree}
 
 no_test : {A : Type 0} → false ≡ true → A

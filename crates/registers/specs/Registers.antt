@@ -1,13 +1,16 @@
 -- Registers: their numbers, what the fixed ones read, which are places, and where the rotating ones are. Assumes nothing.
 use Rattle.std.specs.Prelude.{◌≡◌, ℕ, ◌+◌, ◌%◌, Bool, true, false, cond, ◌&&◌, is_some, Some, None, Option, ◌==◌, nat_lt, refl}
 use Rattle.std.proofs.Common.{arith, ltb-true}
-use Rattle.registers.specs.declared.number.RegisterNumber.{RegisterNumber}
+use Rattle.registers.specs.declared.number.NumberBelow.{NumberBelow}
 use Rattle.registers.specs.declared.banked.Banked.{Banked}
 use Rattle.registers.specs.declared.banked.Banked.TheVariants as banked
 use Rattle.registers.specs.declared.register.Register as register
 use Rattle.registers.specs.declared.register.Register.{Register}
 use Rattle.registers.specs.declared.register.Place.{Place}
 use Rattle.registers.specs.declared.register.Place.TheVariants as place
+
+abbrev pub RegisterNumber : Type 0
+RegisterNumber = NumberBelow 32
 
 -- a register of 32 bits, and one of one bit
 abbrev pub General : Type 0
@@ -16,13 +19,13 @@ General = Banked RegisterNumber 32
 abbrev pub Predicate : Type 0
 Predicate = Banked RegisterNumber 1
 
-abbrev pub below : (n : ℕ) (b : Bool) → nat_lt n 32 ≡ b → Option RegisterNumber
-below n true e = Some (record { number = n; below = ltb-true n 32 e })
+abbrev pub below : {limit : ℕ} (n : ℕ) (b : Bool) → nat_lt n limit ≡ b → Option (NumberBelow limit)
+below {limit} n true e = Some (record { number = n; below = ltb-true n limit e })
 below n false e = None
 
--- the register number n: there is one for each n below 32
-abbrev pub numbered : ℕ → Option RegisterNumber
-numbered n = below n (nat_lt n 32) refl
+-- the number n, where it is below the limit; so there is a register number for each n below 32
+abbrev pub numbered : {limit : ℕ} → ℕ → Option (NumberBelow limit)
+numbered {limit} n = below n (nat_lt n limit) refl
 
 -- rotating register k, while rotating register 0 is the physical one `base`
 abbrev pub rotated : RegisterNumber → RegisterNumber → RegisterNumber

@@ -1,8 +1,8 @@
 -- Registers and places as text. Assumes nothing.
 use Rattle.std.specs.Prelude.{ℕ, List, ◌++◌, codes, decimal}
+use Rattle.registers.specs.declared.register.Register.{Register}
 use Rattle.registers.specs.declared.banked.Banked.TheVariants as banked
 use Rattle.registers.specs.declared.register.Register as register
-use Rattle.registers.specs.declared.register.Register.{Register}
 use Rattle.registers.specs.declared.register.Place as place
 use Rattle.registers.specs.declared.register.Place.{Place}
 use Rattle.registers.specs.Registers.{General, Predicate}

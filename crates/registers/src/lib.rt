@@ -12,6 +12,6 @@ mod write;
 pub use banked::{Banked, General, GeneralName, Predicate, PredicateName};
 pub use equality::equality_tells;
 pub use names::RegisterName;
-pub use number::RegisterNumber;
+pub use number::{NumberBelow, RegisterNumber};
 pub use register::{Place, Register};
 pub use write::Write;

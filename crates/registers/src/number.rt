@@ -1,16 +1,18 @@
-// The number of a register.
+// Numbers below a limit.
 ghost use Rattle.std.specs.Prelude.{◌≡◌, ◌<◌};
 
-// The number of a register in its bank, 0 to 31. RRB, the register that rotating register 0 now is, is one too.
 #[derive(Clone, Copy, PartialEq, Eq, Debug)]
-pub struct RegisterNumber {
-    pub(crate) number: u8,
-    ghost below: { number < 32 },
+pub struct NumberBelow<const LIMIT: u8> {
+    pub number: u8,
+    ghost below: { number < LIMIT },
 }
 
-impl RegisterNumber {
+// The number of a register in its bank, 0 to 31. RRB, the register that rotating register 0 now is, is one too.
+pub type RegisterNumber = NumberBelow<32>;
+
+impl<const LIMIT: u8> NumberBelow<LIMIT> {
     pub fn get(self) -> u8
-        ensures { result ≡ self.number }
+        ensures { result ≡ self.entry.number }
     {
         self.number
     }

@@ -3,7 +3,7 @@ ghost use Rattle.std.specs.Prelude.{◌≡◌, ◌+◌, ◌%◌, not, is_some};
 ghost use Rattle.registers.specs.Registers.{numbered, general_place, predicate_place, general_constant, predicate_constant, physical};
 
 use crate::banked::{Banked, General, Predicate};
-use crate::number::RegisterNumber;
+use crate::number::{NumberBelow, RegisterNumber};
 
 // How many registers a bank has.
 const REGISTERS: u8 = 32;
@@ -21,17 +21,20 @@ pub enum Place {
     Memory,
 }
 
-impl RegisterNumber {
-    // The number, where there is such a register.
-    pub fn new(number: u8) -> Option<RegisterNumber>
+impl<const LIMIT: u8> NumberBelow<LIMIT> {
+    // The number, where it is below the limit: its ghost field takes the test as it stands.
+    pub fn new(number: u8) -> Option<NumberBelow<LIMIT>>
         ensures { result ≡ numbered number }
     {
-        if number >= REGISTERS {
-            return None;
+        if number < LIMIT {
+            Some(NumberBelow { number })
+        } else {
+            None
         }
-        Some(RegisterNumber { number })
     }
+}
 
+impl RegisterNumber {
     // The physical number of the rotating register with this number.
     pub fn rotated(self, rrb: RegisterNumber) -> RegisterNumber
         ensures { result.number ≡ (self.number + rrb.number) % 32 }

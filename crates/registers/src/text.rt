@@ -3,11 +3,11 @@ ghost use Rattle.std.specs.Prelude.{Some, decimal};
 ghost use Rattle.registers.specs.Texts.{general_text, predicate_text, register_text, place_text};
 
 use crate::banked::{General, Predicate};
-use crate::number::RegisterNumber;
+use crate::number::NumberBelow;
 use crate::register::{Place, Register};
 use std::fmt;
 
-impl fmt::Display for RegisterNumber {
+impl<const LIMIT: u8> fmt::Display for NumberBelow<LIMIT> {
     ghost output = { λ n. Some (decimal n.number) };
 
     fn fmt<W: fmt::Write>(&self, f: &mut fmt::Formatter<W>) -> fmt::Result {

@@ -6,7 +6,7 @@ use Rattle.registers.proofs.equality.equality_tells.Goals as goal
 
 pub returns : goal.returns
 returns c = record {
-  numbers = λ m n. (λ t. numbers_agree m n (eqb-true _ _ t), λ e. eq-eqb _ _ (ap (λ x. x.number) e));
+  numbers = λ limit m n. (λ t. numbers_agree m n (eqb-true _ _ t), λ e. eq-eqb _ _ (ap (λ x. x.number) e));
   banked = λ bits x y. (banked_same x y, λ e. subst (λ z. same x z ≡ true) e (banked_itself x));
   registers = λ x y. (register_same x y, λ e. subst (λ z. same_register x z ≡ true) e (register_itself x));
   places = λ p q. (place_same p q, λ e. subst (λ z. same_place p z ≡ true) e (place_itself p));
