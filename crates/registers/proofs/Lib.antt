@@ -1,3 +1,3 @@
 pub mod Numbered
 pub mod Equal
-pub mod Handed
+pub mod Meant

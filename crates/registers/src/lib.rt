@@ -11,7 +11,7 @@ mod write;
 
 pub use banked::{Banked, General, GeneralName, Predicate, PredicateName};
 pub use equality::equality_tells;
-pub use names::RegisterName;
+pub use names::{RegisterName, handed};
 pub use number::{NumberBelow, RegisterNumber};
 pub use register::{Place, Register};
 pub use write::Write;

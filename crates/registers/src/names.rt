@@ -1,6 +1,7 @@
 // Registers as they are named from outside, with any number.
-ghost use Rattle.std.specs.Prelude.{◌≡◌};
-ghost use Rattle.registers.specs.Names.{named, raw_name, register_of};
+ghost use Rattle.std.specs.Prelude.{◌≡◌, ℕ, ◌≤◌};
+ghost use Rattle.registers.specs.Registers.{numbered};
+ghost use Rattle.registers.specs.Names.{handed, named, raw_name, register_of};
 
 use crate::banked::{Banked, GeneralName, PredicateName};
 use crate::number::RegisterNumber;
@@ -25,8 +26,16 @@ impl<const BITS: usize> Banked<u8, BITS> {
     }
 }
 
-// What stands for every number above: no register has it.
+// What stands for every number above: no register and no block has it.
 const MISSING: u8 = 255;
+
+// Any number as it is handed in: it is below a limit if and only if the number is, and then it is that number.
+pub fn handed(number: u64) -> u8
+    ensures value { result ≡ handed number }
+    ensures meant { (limit : ℕ) → limit ≤ 255 → numbered {limit = limit} result ≡ numbered number }
+{
+    u8::try_from(number).unwrap_or(MISSING)
+}
 
 impl<const BITS: usize> Banked<u64, BITS> {
     // The name of it that is handed in: it names the very register, or none where there is none.
@@ -35,8 +44,8 @@ impl<const BITS: usize> Banked<u64, BITS> {
         ensures meant { named result ≡ named self.entry }
     {
         match self {
-            Banked::Static(n) => Banked::Static(u8::try_from(n).unwrap_or(MISSING)),
-            Banked::Rotating(n) => Banked::Rotating(u8::try_from(n).unwrap_or(MISSING)),
+            Banked::Static(n) => Banked::Static(handed(n)),
+            Banked::Rotating(n) => Banked::Rotating(handed(n)),
         }
     }
 }
