@@ -1,7 +1,6 @@
 -- The words that a text begins with. Assumes nothing.
-use Rattle.std.proofs.Common.{◌≡◌, ℕ, ◌+◌, ◌<◌, ◌≤◌, Bool, true, false, cond, eqb, List, [], ◌∷◌, ◌++◌, length, get_or, drop, IfSome, Some, None, Option, refl, ap, ◌∙◌, subst, arith, Bor, eq-eqb, eqb-true, MatchOption}
+use Rattle.std.proofs.Common.{◌≡◌, ℕ, ◌+◌, ◌<◌, ◌≤◌, Bool, true, false, cond, eqb, List, [], ◌∷◌, ◌++◌, length, get_or, drop, IfSome, Some, None, Option, refl, ap, ◌∙◌, arith, Bor, eq-eqb, eqb-true, MatchOption}
 use borrow.Author.Tests.{eqb-false}
-use Rattle.std.specs.List.{AllByRecursion}
 use Rattle.std.proofs.lemmas.List.{at_drop_more, at_drop_all}
 use Rattle.std.proofs.lemmas.Bool.{cond-true}
 use Rattle.lines.specs.Tables.{after, or_else, begun}
@@ -39,15 +38,6 @@ module _ {T : Type 0} where
       by : (a : Option (List ℕ)) → Told (word x) t a → or_else a x (worded word xs t) ≡ Some (o, rest) → (worded word xs t ≡ Some (o, rest) → t ≡ word o ++ rest) → t ≡ word o ++ rest
       by None h p ih = ih p
       by (Some r) h p ih = let q : ◌≡◌ {A = T × List ℕ} (x, r) (o, rest) = cc in h ∙ ap (λ y. word y.0 ++ y.1) q
-
-  -- and has what all of the table have
-  pub worded_all : (word : T → List ℕ) (P : T → Type 0) (xs : List T) → AllByRecursion P xs → (t : List ℕ) (o : T) (rest : List ℕ) → worded word xs t ≡ Some (o, rest) → P o
-  worded_all word P [] all t o rest e = let z : ◌≡◌ {A = ℕ} 0 1 = cc in absurd (omega arith)
-  worded_all word P (x ∷ xs) all t o rest e = by (after (word x) t) e (worded_all word P xs all.1 t o rest)
-    where
-      by : (a : Option (List ℕ)) → or_else a x (worded word xs t) ≡ Some (o, rest) → (worded word xs t ≡ Some (o, rest) → P o) → P o
-      by None p ih = ih p
-      by (Some r) p ih = let q : ◌≡◌ {A = T × List ℕ} (x, r) (o, rest) = cc in subst P (ap (λ y. y.0) q) all.0
 
   pub nothing : (b : Option (T × List ℕ)) (o : T) (rest : List ℕ) → b ≡ None → b ≡ Some (o, rest) → ⊥
   nothing b o rest e f = let z : ◌≡◌ {A = ℕ} 0 1 = cc in omega arith

@@ -27,4 +27,4 @@ returns-in-Some-literal c =
     }
 
 pub returns : goal.returns
-returns c = let f = c.in-Some-opcode.ensures in record { sound = f.sound; complete = λ k rest h. only_opcode _ _ _ k rest f.sound f.complete h }
+returns c = let f = c.in_ok-o.ensures in record { sound = f.sound; complete = λ k rest h. only_opcode _ _ _ k rest f.sound f.complete h }
