@@ -1,5 +1,5 @@
 -- Lines of the description, by their first word. Assumes nothing.
-use Rattle.std.proofs.Common.{◌≡◌, ℕ, List, ◌++◌, IfSome, Some, None, codes, Option, sym, refl, ap, ◌∙◌, subst, arith}
+use Rattle.std.proofs.Common.{◌≡◌, ℕ, List, ◌++◌, IfSome, Some, None, codes, Option, refl, ap, ◌∙◌, arith}
 use Rattle.lines.specs.declared.mark.Latency.{Latency}
 use Rattle.lines.specs.declared.mark.Latency.TheVariants as latency
 use Rattle.lines.specs.declared.mark.Mark.{Mark}
@@ -84,12 +84,3 @@ module _ (l : Latency) (t0 t1 : List ℕ) (s : Says token.Mark t0 (Some (mark.La
   must r k (line.Integer b) h e = let q = told (line.Integer b) t0 t1 _ s e in k b h q.1 ∙ ap (λ i. Some (bounds_of i b)) (latency_same l latency.Integer q.0)
   must r k (line.Load b) h e = let q = told (line.Load b) t0 t1 _ s e in k b h q.1 ∙ ap (λ i. Some (bounds_of i b)) (latency_same l latency.Load q.0)
   must r k (line.Compare b) h e = let q = told (line.Compare b) t0 t1 _ s e in k b h q.1 ∙ ap (λ i. Some (bounds_of i b)) (latency_same l latency.Compare q.0)
-
-  pub line_bounds : (b : WrittenBounds) (x : DescriptionLine) → x ≡ bounds_of l b → Whole spaced_bounds ShortBounds t1 (Some b) → Line t0 (Some x)
-  line_bounds b x is w = record {
-    sound = subst (λ y. ShortDescription y × (t0 ≡ description_line_text y)) (sym is) (bounds_short l b w.sound.0, s.sound.whole ∙ ap (λ t. latency_text l ++ t) w.sound.1 ∙ sym (bounds_line l b));
-    complete = must (Some x) (λ c h e. ap Some (is ∙ ap (bounds_of l) (some_same b c (w.complete c h e))));
-  }
-
-  pub line_no_bounds : Whole spaced_bounds ShortBounds t1 None → Line t0 None
-  line_no_bounds w = record { sound = tt; complete = must None (λ c h e. absurd (none_some c (w.complete c h e))) }
