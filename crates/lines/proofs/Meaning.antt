@@ -37,14 +37,14 @@ beyond_registers n h = grind (arith, nat_tests)
 beyond_blocks : (n : ℕ) → ltb n 255 ≡ false → ltb n 16 ≡ false
 beyond_blocks n h = grind (arith, nat_tests)
 
-register_handed : (n : ℕ) → numbered (handed n) ≡ numbered n
+pub register_handed : (n : ℕ) → numbered (handed n) ≡ numbered n
 register_handed n = by (ltb n 255) refl
   where
     by : (b : Bool) → ltb n 255 ≡ b → numbered (cond b n 255) ≡ numbered n
     by true e = refl
     by false e = sym (no_register n (ltb n 32) refl (beyond_registers n e))
 
-block_handed : (n : ℕ) → block_numbered (handed n) ≡ block_numbered n
+pub block_handed : (n : ℕ) → block_numbered (handed n) ≡ block_numbered n
 block_handed n = by (ltb n 255) refl
   where
     by : (b : Bool) → ltb n 255 ≡ b → block_numbered (cond b n 255) ≡ block_numbered n
