@@ -12,15 +12,9 @@ use crate::written::Token;
 pub(crate) fn token<'a>(text: &'a [u8]) -> Option<(Token, &'a [u8])>
     ensures { Begins (TokenAt text.now) result }
 {
-    if let Some((m, rest)) = mark(text) {
-        return Some((Token::Mark(m), rest));
-    }
-    if let Some((x, rest)) = name(text) {
-        return Some((Token::Register(x), rest));
-    }
-    if let Some((z, rest)) = literal(text) {
-        return Some((Token::Literal(z), rest));
-    }
-    let (o, rest) = opcode(text)?;
-    Some((Token::Opcode(o), rest))
+    mark(text)
+        .map(|(m, rest)| (Token::Mark(m), rest))
+        .or_else(|| name(text).map(|(x, rest)| (Token::Register(x), rest)))
+        .or_else(|| literal(text).map(|(z, rest)| (Token::Literal(z), rest)))
+        .or_else(|| opcode(text).map(|(o, rest)| (Token::Opcode(o), rest)))
 }
