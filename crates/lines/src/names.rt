@@ -10,7 +10,7 @@ use crate::written::{WrittenGeneral, WrittenPredicate, WrittenRegister};
 pub(crate) fn name<'a>(text: &'a [u8]) -> Option<(WrittenRegister, &'a [u8])>
     ensures { Begins (λ x rest. TokenAt text.now (token.Register x) rest) result }
 {
-    // A chain of `or_else` takes four lines more: each closure stands on lines of its own.
+    // A chain of `or_else` is longer, since each closure there takes four lines.
     if let Some((n, rest)) = field(text, b"r") {
         return Some((WrittenRegister::General(WrittenGeneral::Static(n)), rest));
     }
