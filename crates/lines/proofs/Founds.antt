@@ -9,3 +9,6 @@ found_more (Some x) P Q f h = f x h
 -- nothing stands there, and none is what is read
 pub none_begins : {X : Type 0} (At : X → List ℕ → Type 0) (r : Option (X × Bor (List ℕ))) → r ≡ None → ((x : X) (rest : List ℕ) → At x rest → ⊥) → Begins At r
 none_begins At r e never = subst (Begins At) (sym e) (record { sound = tt; complete = never })
+
+pub same_begins : {X : Type 0} (P Q : X → List ℕ → Type 0) (r : Option (X × Bor (List ℕ))) → ((x : X) (rest : List ℕ) → P x rest → Q x rest) → ((x : X) (rest : List ℕ) → Q x rest → P x rest) → Begins P r → Begins Q r
+same_begins P Q r to back b = record { sound = found_more r _ _ (λ x h. to x.0 x.1.now h) b.sound; complete = λ x rest h. b.complete x rest (back x rest h) }

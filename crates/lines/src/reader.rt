@@ -18,6 +18,7 @@ impl<'a> Reader<'a> {
     }
 
     // What has not been handed out.
+    #[tactic(auto, using(std::proofs::lemmas::List::take_rest))]
     pub(crate) fn rest(&self) -> &'a [u8]
         ensures { result.now ≡ left self.now }
     {
