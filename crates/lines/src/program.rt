@@ -62,8 +62,8 @@ fn exit(reader: &mut Reader) -> Option<WrittenExit>
     match expect(reader)? {
         Mark::Halt => reader.is_done().then_some(WrittenExit::Halt),
         Mark::Next => reader.is_done().then_some(WrittenExit::Next),
-        Mark::Goto => Some(WrittenExit::Goto(target(reader)?)),
-        Mark::Loop => Some(WrittenExit::Loop(target(reader)?)),
+        Mark::Goto => target(reader).map(WrittenExit::Goto),
+        Mark::Loop => target(reader).map(WrittenExit::Loop),
         Mark::If => branch(reader),
         _ => None,
     }
@@ -94,8 +94,8 @@ fn said(reader: &mut Reader) -> Option<ProgramLine>
 {
     let mut ahead = *reader;
     match expect(&mut ahead) {
-        Some(Mark::Block) => Some(ProgramLine::Block(target(&mut ahead)?)),
-        Some(Mark::Exit) => Some(ProgramLine::Exit(exit_line(&mut ahead)?)),
+        Some(Mark::Block) => target(&mut ahead).map(ProgramLine::Block),
+        Some(Mark::Exit) => exit_line(&mut ahead).map(ProgramLine::Exit),
         _ => placed(reader),
     }
 }

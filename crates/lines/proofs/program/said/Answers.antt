@@ -1,21 +1,17 @@
 use Rattle.std.proofs.Common.{◌≡◌, Some, sym, ◌∙◌, rules}
 use Rattle.lines.specs.declared.mark.Mark.TheVariants as mark
+use Rattle.lines.specs.declared.written.ProgramLine.TheVariants as line
+use Rattle.lines.proofs.Founds.{mapped}
 use Rattle.lines.proofs.Sayings.{none_some}
-use Rattle.lines.proofs.Worded.{line_placed, line_block, line_no_block, line_exit, line_no_exit}
+use Rattle.lines.proofs.Worded.{line_placed, line_block, line_exit}
 use Rattle.lines.proofs.program.said.Goals as goal
 use Rattle.lines.proofs.program.said.Goals.{in_default-via-in-Some+in_default, in_default-via-in_default}
 
-pub returns-in_ok-target-in-Some-Block : goal.returns-in_ok-target-in-Some-Block
-returns-in_ok-target-in-Some-Block c = line_block _ _ (rw c.in-Some-Block.field-0-is at c.in-Some-Block.ensures) _ c.in_ok-target-in-Some-Block.ensures
+pub returns-in-Some-Block : goal.returns-in-Some-Block
+returns-in-Some-Block c = rw (mapped line.Block c.target.result c.map.result (search rules)) (line_block _ _ _ (rw c.in-Some-Block.field-0-is at c.in-Some-Block.ensures) c.target.ensures)
 
-pub returns-in_err-target-in-Some-Block : goal.returns-in_err-target-in-Some-Block
-returns-in_err-target-in-Some-Block c = rw c.from_residual.ensures (line_no_block _ _ (rw c.in-Some-Block.field-0-is at c.in-Some-Block.ensures) c.in_err-target-in-Some-Block.ensures)
-
-pub returns-in_ok-exit_line-in-Some-Exit : goal.returns-in_ok-exit_line-in-Some-Exit
-returns-in_ok-exit_line-in-Some-Exit c = line_exit _ _ (rw c.in-Some-Exit.field-0-is at c.in-Some-Exit.ensures) _ c.in_ok-exit_line-in-Some-Exit.ensures
-
-pub returns-in_err-exit_line-in-Some-Exit : goal.returns-in_err-exit_line-in-Some-Exit
-returns-in_err-exit_line-in-Some-Exit c = rw c.from_residual-in_err-exit_line-in-Some-Exit.ensures (line_no_exit _ _ (rw c.in-Some-Exit.field-0-is at c.in-Some-Exit.ensures) c.in_err-exit_line-in-Some-Exit.ensures)
+pub returns-in-Some-Exit : goal.returns-in-Some-Exit
+returns-in-Some-Exit c = rw (mapped line.Exit c.exit_line.result c.map-in-Some-Exit.result (search rules)) (line_exit _ _ _ (rw c.in-Some-Exit.field-0-is at c.in-Some-Exit.ensures) c.exit_line.ensures)
 
 pub returns-in_default : goal.returns-in_default
 returns-in_default c =
