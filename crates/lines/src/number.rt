@@ -21,6 +21,7 @@ fn digits_value(digits: &[u8]) -> u64
     requires { (length digits.now ≤ 10) × (AllDigits 10 digits.now) }
     ensures { result ≡ digits_value 10 digits.now }
 {
+    // In a `fold` the closure would have to show that each sum fits.
     let mut n = 0u64;
     for b in digits {
         n = n * 10 + u64::from(*b - b'0');

@@ -3,7 +3,7 @@ ghost use Rattle.std.specs.Prelude.{◌≡◌, ◌++◌, codes};
 ghost use Rattle.lines.specs.Items.{left};
 ghost use Rattle.lines.specs.Numbers.{Short};
 ghost use Rattle.lines.specs.Said.{Reads, Whole, call_of, behind_text, FirstIs, ShortCall};
-ghost use Rattle.lines.specs.Written.{always, guard_text, sources_text, written_text, predicate_number, ShortSources, ShortOperation};
+ghost use Rattle.lines.specs.Written.{guard_text, sources_text, written_text, predicate_number, ShortSources, ShortOperation};
 
 use crate::expect::{expect, marks};
 use crate::mark::Mark;
@@ -11,28 +11,19 @@ use crate::place::Reader;
 use crate::written::{WrittenOperation, WrittenPredicate, WrittenRegister, WrittenSources};
 use operations::UpToTwo;
 
-const ALWAYS: u64 = 1;
-
-// Whether it is p1, which is not written as a guard.
-fn is_always(name: WrittenPredicate) -> bool
-    ensures { result ≡ always name }
-{
-    match name {
-        WrittenPredicate::Static(number) => number == ALWAYS,
-        WrittenPredicate::Rotating(_) => false,
-    }
-}
+// p1, which is not written as a guard.
+const ALWAYS: WrittenPredicate = WrittenPredicate::Static(1);
 
 // The guard, up to the end of the line.
 fn guard(reader: &mut Reader) -> Option<WrittenPredicate>
     ensures { Whole guard_text (λ g. Short (predicate_number g)) (left reader.old) result }
 {
     if reader.is_done() {
-        return Some(WrittenPredicate::Static(ALWAYS));
+        return Some(ALWAYS);
     }
     marks(reader, &[Mark::Space, Mark::If, Mark::Space])?;
     let name = expect(reader)?;
-    (reader.is_done() && !is_always(name)).then_some(name)
+    (reader.is_done() && name != ALWAYS).then_some(name)
 }
 
 // The sources, and the bracket behind them.
