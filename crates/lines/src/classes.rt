@@ -1,7 +1,7 @@
 // The classes of a slot as they are written.
-ghost use Rattle.std.specs.Prelude.{◌≡◌, ◌≢◌, ℕ, true, false, cond, ◌||◌, List, [], ◌++◌, IfSome, Some};
-ghost use Rattle.lines.specs.declared.written.Classes.{Classes};
-ghost use Rattle.lines.specs.Lines.{classes_text};
+ghost use Rattle.std.specs.Prelude.{◌≡◌, ◌≢◌, ℕ, false, cond, List, [], ◌++◌};
+ghost use Rattle.lines.specs.Lines.{classes_text, HasClass};
+ghost use Rattle.lines.specs.Said.{Whole};
 
 use crate::words::after_word;
 use crate::written::Classes;
@@ -19,8 +19,7 @@ fn letter<'a>(text: &'a [u8], letter: &[u8]) -> (bool, &'a [u8])
 
 // The classes that `text` is the letters of: one at least.
 pub(crate) fn classes(text: &[u8]) -> Option<Classes>
-    ensures sound { IfSome result (λ k. (text.now ≡ classes_text k) × ((k.integer || (k.memory || k.compare)) ≡ true)) }
-    ensures complete { (k : Classes) → (k.integer || (k.memory || k.compare)) ≡ true → text.now ≡ classes_text k → result ≡ Some k }
+    ensures { Whole classes_text HasClass text.now result }
 {
     let (integer, text) = letter(text, b"I");
     let (memory, text) = letter(text, b"M");
