@@ -14,14 +14,14 @@ pub(crate) trait Said {
     // The token that says it.
     ghost token: { Self → Token };
 
-    fn said(by: Token) -> Option<Self>
+    fn from_token(by: Token) -> Option<Self>
         ensures { (x : Self) → (result ≡ Some x) ↔ (by ≡ token x) };
 }
 
 impl Said for WrittenRegister {
     ghost token = { token.Register };
 
-    fn said(by: Token) -> Option<WrittenRegister> {
+    fn from_token(by: Token) -> Option<WrittenRegister> {
         match by {
             Token::Register(name) => Some(name),
             _ => None,
@@ -32,7 +32,7 @@ impl Said for WrittenRegister {
 impl Said for WrittenPredicate {
     ghost token = { λ p. token.Register (name.Predicate p) };
 
-    fn said(by: Token) -> Option<WrittenPredicate> {
+    fn from_token(by: Token) -> Option<WrittenPredicate> {
         match by {
             Token::Register(WrittenRegister::Predicate(name)) => Some(name),
             _ => None,
@@ -44,7 +44,7 @@ impl Said for WrittenPredicate {
 impl Said for u64 {
     ghost token = { λ n. token.Literal (pos n) };
 
-    fn said(by: Token) -> Option<u64> {
+    fn from_token(by: Token) -> Option<u64> {
         match by {
             Token::Literal(value) => u64::try_from(value).ok(),
             _ => None,
@@ -55,7 +55,7 @@ impl Said for u64 {
 impl Said for WrittenOperand {
     ghost token = { operand_token };
 
-    fn said(by: Token) -> Option<WrittenOperand> {
+    fn from_token(by: Token) -> Option<WrittenOperand> {
         match by {
             Token::Register(name) => Some(WrittenOperand::Register(name)),
             Token::Literal(value) => Some(WrittenOperand::Literal(value)),
@@ -67,7 +67,7 @@ impl Said for WrittenOperand {
 impl Said for Opcode {
     ghost token = { token.Opcode };
 
-    fn said(by: Token) -> Option<Opcode> {
+    fn from_token(by: Token) -> Option<Opcode> {
         match by {
             Token::Opcode(opcode) => Some(opcode),
             _ => None,
@@ -78,7 +78,7 @@ impl Said for Opcode {
 impl Said for Mark {
     ghost token = { token.Mark };
 
-    fn said(by: Token) -> Option<Mark> {
+    fn from_token(by: Token) -> Option<Mark> {
         match by {
             Token::Mark(mark) => Some(mark),
             _ => None,

@@ -5,4 +5,4 @@ pub returns-in_err-next : goal.returns-in_err-next
 returns-in_err-next g c = none_read _ _ _ _ c.from_residual.ensures c.in_err-next.ensures.complete
 
 pub returns : goal.returns
-returns g c = one_read _ _ _ _ c.in_ok-next.field-0.token c.in_ok-next.ensures.sound c.in_ok-next.ensures.complete c.said.ensures
+returns g c = one_read _ _ _ _ c.in_ok-next.field-0.token c.in_ok-next.ensures.sound c.in_ok-next.ensures.complete c.from_token.ensures
