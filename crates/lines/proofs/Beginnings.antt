@@ -1,9 +1,9 @@
 -- The words that a text begins with. Assumes nothing.
-use Rattle.std.proofs.Common.{◌≡◌, ℕ, ◌+◌, ◌<◌, ◌≤◌, Bool, true, false, cond, eqb, List, [], ◌∷◌, ◌++◌, length, get_or, drop, IfSome, Some, None, Option, refl, ap, ◌∙◌, subst, arith, Bor, eq-eqb, eqb-true, MatchOption}
+use Rattle.std.proofs.Common.{◌≡◌, ℕ, ◌+◌, ◌<◌, ◌≤◌, Bool, true, false, cond, eqb, List, [], ◌∷◌, ◌++◌, length, get_or, drop, IfSome, Some, None, Option, refl, ap, ◌∙◌, arith, Bor, eq-eqb, eqb-true, MatchOption}
 use borrow.Author.Tests.{eqb-false}
-use Rattle.std.specs.List.{AllByRecursion}
 use Rattle.std.proofs.lemmas.List.{at_drop_more, at_drop_all}
 use Rattle.std.proofs.lemmas.Bool.{cond-true}
+use Rattle.lines.specs.Begins.{Begins}
 use Rattle.lines.specs.Tables.{after, or_else, begun}
 
 pub after_word : (w rest : List ℕ) → after w (w ++ rest) ≡ Some rest
@@ -40,15 +40,6 @@ module _ {T : Type 0} where
       by None h p ih = ih p
       by (Some r) h p ih = let q : ◌≡◌ {A = T × List ℕ} (x, r) (o, rest) = cc in h ∙ ap (λ y. word y.0 ++ y.1) q
 
-  -- and has what all of the table have
-  pub worded_all : (word : T → List ℕ) (P : T → Type 0) (xs : List T) → AllByRecursion P xs → (t : List ℕ) (o : T) (rest : List ℕ) → worded word xs t ≡ Some (o, rest) → P o
-  worded_all word P [] all t o rest e = let z : ◌≡◌ {A = ℕ} 0 1 = cc in absurd (omega arith)
-  worded_all word P (x ∷ xs) all t o rest e = by (after (word x) t) e (worded_all word P xs all.1 t o rest)
-    where
-      by : (a : Option (List ℕ)) → or_else a x (worded word xs t) ≡ Some (o, rest) → (worded word xs t ≡ Some (o, rest) → P o) → P o
-      by None p ih = ih p
-      by (Some r) p ih = let q : ◌≡◌ {A = T × List ℕ} (x, r) (o, rest) = cc in subst P (ap (λ y. y.0) q) all.0
-
   pub nothing : (b : Option (T × List ℕ)) (o : T) (rest : List ℕ) → b ≡ None → b ≡ Some (o, rest) → ⊥
   nothing b o rest e f = let z : ◌≡◌ {A = ℕ} 0 1 = cc in omega arith
 
@@ -59,13 +50,17 @@ module _ {T : Type 0} where
   abbrev pub Given : (T → List ℕ) → List T → List ℕ → Option (T × Bor (List ℕ)) → Type 0
   Given word xs t r = MatchOption r (worded word xs t ≡ None) (λ x. worded word xs t ≡ Some (x.0, x.1.now))
 
-  pub given_sound : (word : T → List ℕ) (xs : List T) (t : List ℕ) (r : Option (T × Bor (List ℕ))) → Given word xs t r → IfSome r (λ x. t ≡ word x.0 ++ x.1.now)
+  given_sound : (word : T → List ℕ) (xs : List T) (t : List ℕ) (r : Option (T × Bor (List ℕ))) → Given word xs t r → IfSome r (λ x. t ≡ word x.0 ++ x.1.now)
   given_sound word xs t None g = tt
   given_sound word xs t (Some x) g = worded_sound word xs t x.0 x.1.now g
 
-  pub given_only : (word : T → List ℕ) (xs : List T) (t : List ℕ) (r : Option (T × Bor (List ℕ))) → Given word xs t r → (o : T) (rest : List ℕ) → worded word xs t ≡ Some (o, rest) → MatchOption r ⊥ (λ x. (x.0 ≡ o) × (x.1.now ≡ rest))
+  given_only : (word : T → List ℕ) (xs : List T) (t : List ℕ) (r : Option (T × Bor (List ℕ))) → Given word xs t r → (o : T) (rest : List ℕ) → worded word xs t ≡ Some (o, rest) → MatchOption r ⊥ (λ x. (x.0 ≡ o) × (x.1.now ≡ rest))
   given_only word xs t None g o rest e = nothing (worded word xs t) o rest g e
   given_only word xs t (Some x) g o rest e = the_same (worded word xs t) x.0 o x.1.now rest g e
+
+  -- a table that tells all words apart
+  pub table_begins : (word : T → List ℕ) (xs : List T) → ((x : T) (rest : List ℕ) → worded word xs (word x ++ rest) ≡ Some (x, rest)) → (t : List ℕ) (r : Option (T × Bor (List ℕ))) → Given word xs t r → Begins (λ x rest. t ≡ word x ++ rest) r
+  table_begins word xs each t r g = record { sound = given_sound word xs t r g; complete = λ x rest e. given_only word xs t r g x rest (ap (worded word xs) e ∙ each x rest) }
 
   -- a turn over the table
   pub hit : (xs : List (T × Bor (List ℕ))) (i : ℕ) (d : T × Bor (List ℕ)) (t rest : List ℕ) → i < length xs → t ≡ (get_or xs i d).1.now ++ rest → begun (drop i xs) t ≡ Some ((get_or xs i d).0, rest)

@@ -1,17 +1,15 @@
 -- Lines of the description, by their first word. Assumes nothing.
-use Rattle.std.proofs.Common.{◌≡◌, ℕ, List, ◌++◌, IfSome, Some, None, codes, Option, sym, refl, ap, ◌∙◌, subst, arith}
-use Rattle.lines.specs.declared.mark.Latency.{Latency}
+use Rattle.std.proofs.Common.{◌≡◌, ℕ, List, ◌++◌, IfSome, Some, None, codes, Option, refl, ap, ◌∙◌, arith}
 use Rattle.lines.specs.declared.mark.Latency.TheVariants as latency
 use Rattle.lines.specs.declared.mark.Mark.{Mark}
 use Rattle.lines.specs.declared.mark.Mark.TheVariants as mark
-use Rattle.lines.specs.declared.written.WrittenBounds.{WrittenBounds}
 use Rattle.lines.specs.declared.written.DescriptionLine.{DescriptionLine}
 use Rattle.lines.specs.declared.written.DescriptionLine.TheVariants as line
 use Rattle.lines.specs.declared.written.Token.TheVariants as token
-use Rattle.lines.specs.Marks.{mark_text, latency_text}
-use Rattle.lines.specs.Lines.{description_line_text, ShortBounds, ShortDescription}
-use Rattle.lines.specs.Said.{Says, Whole, spaced_bounds, slot_behind, bounds_of, ShortSlot}
-use Rattle.lines.proofs.Sayings.{none_some, some_same}
+use Rattle.lines.specs.Marks.{mark_text}
+use Rattle.lines.specs.Lines.{description_line_text, ShortDescription}
+use Rattle.lines.specs.Said.{Says, Whole, spaced_bounds, slot_behind, ShortSlot}
+use Rattle.lines.proofs.Sayings.{none_some}
 use Rattle.lines.proofs.Worded.{word_told, other}
 
 abbrev pub Line : List ℕ → Option DescriptionLine → Type 0
@@ -57,39 +55,3 @@ line_slot t0 t1 r s w = record { sound = there r w.sound; complete = by }
     by (line.Integer b) h e = absurd (other mark.Slot (mark.Latency latency.Integer) (λ f. omega (arith, f)) (told (line.Integer b) t0 t1 _ s e).0)
     by (line.Load b) h e = absurd (other mark.Slot (mark.Latency latency.Load) (λ f. omega (arith, f)) (told (line.Load b) t0 t1 _ s e).0)
     by (line.Compare b) h e = absurd (other mark.Slot (mark.Latency latency.Compare) (λ f. omega (arith, f)) (told (line.Compare b) t0 t1 _ s e).0)
-
--- a line of bounds is the bounds of its latency
-bounds_line : (l : Latency) (b : WrittenBounds) → description_line_text (bounds_of l b) ≡ latency_text l ++ spaced_bounds b
-bounds_line latency.Integer b = refl
-bounds_line latency.Load b = refl
-bounds_line latency.Compare b = refl
-
-bounds_short : (l : Latency) (b : WrittenBounds) → ShortBounds b → ShortDescription (bounds_of l b)
-bounds_short latency.Integer b h = h
-bounds_short latency.Load b h = h
-bounds_short latency.Compare b h = h
-
-latency_same : (l k : Latency) → Some (mark.Latency l) ≡ Some (mark.Latency k) → l ≡ k
-latency_same l k e = cc (some_same (mark.Latency l) (mark.Latency k) e)
-
-module _ (l : Latency) (t0 t1 : List ℕ) (s : Says token.Mark t0 (Some (mark.Latency l)) t1) where
-  -- the bounds that a line must have, if it is one of this latency
-  must : (r : Option DescriptionLine) → ((b : WrittenBounds) → ShortBounds b → t1 ≡ spaced_bounds b → r ≡ Some (bounds_of l b)) → (x : DescriptionLine) → ShortDescription x → t0 ≡ description_line_text x → r ≡ Some x
-  must r k (line.Slot n c) h e = absurd (elsewhere l (told (line.Slot n c) t0 t1 _ s e).0)
-    where
-      elsewhere : (l : Latency) → Some (mark.Latency l) ≡ Some mark.Slot → ⊥
-      elsewhere latency.Integer q = other (mark.Latency latency.Integer) mark.Slot (λ f. omega (arith, f)) q
-      elsewhere latency.Load q = other (mark.Latency latency.Load) mark.Slot (λ f. omega (arith, f)) q
-      elsewhere latency.Compare q = other (mark.Latency latency.Compare) mark.Slot (λ f. omega (arith, f)) q
-  must r k (line.Integer b) h e = let q = told (line.Integer b) t0 t1 _ s e in k b h q.1 ∙ ap (λ i. Some (bounds_of i b)) (latency_same l latency.Integer q.0)
-  must r k (line.Load b) h e = let q = told (line.Load b) t0 t1 _ s e in k b h q.1 ∙ ap (λ i. Some (bounds_of i b)) (latency_same l latency.Load q.0)
-  must r k (line.Compare b) h e = let q = told (line.Compare b) t0 t1 _ s e in k b h q.1 ∙ ap (λ i. Some (bounds_of i b)) (latency_same l latency.Compare q.0)
-
-  pub line_bounds : (b : WrittenBounds) (x : DescriptionLine) → x ≡ bounds_of l b → Whole spaced_bounds ShortBounds t1 (Some b) → Line t0 (Some x)
-  line_bounds b x is w = record {
-    sound = subst (λ y. ShortDescription y × (t0 ≡ description_line_text y)) (sym is) (bounds_short l b w.sound.0, s.sound.whole ∙ ap (λ t. latency_text l ++ t) w.sound.1 ∙ sym (bounds_line l b));
-    complete = must (Some x) (λ c h e. ap Some (is ∙ ap (bounds_of l) (some_same b c (w.complete c h e))));
-  }
-
-  pub line_no_bounds : Whole spaced_bounds ShortBounds t1 None → Line t0 None
-  line_no_bounds w = record { sound = tt; complete = must None (λ c h e. absurd (none_some c (w.complete c h e))) }

@@ -4,7 +4,7 @@ use Rattle.std.proofs.lemmas.Bool.{false≢true}
 use Rattle.std.proofs.lemmas.Bool.Decides.{nat_tests}
 use Rattle.registers.specs.Registers.{numbered, below}
 use Rattle.registers.specs.Names.{general_of, predicate_of, register_of}
-use Rattle.blocks.specs.Exits.{block_numbered, block_below, exit_named}
+use Rattle.blocks.specs.Exits.{block_numbered, block_below}
 use Rattle.lines.specs.declared.written.WrittenGeneral.{WrittenGeneral}
 use Rattle.lines.specs.declared.written.WrittenGeneral.TheVariants as general
 use Rattle.lines.specs.declared.written.WrittenPredicate.{WrittenPredicate}
@@ -18,10 +18,8 @@ use Rattle.lines.specs.declared.written.WrittenOperand.TheVariants as operand
 use Rattle.lines.specs.declared.written.WrittenSources.{WrittenSources}
 use Rattle.lines.specs.declared.written.WrittenSources.TheVariants.{One, Two}
 use Rattle.lines.specs.declared.written.WrittenOperation.{WrittenOperation}
-use Rattle.lines.specs.declared.written.WrittenExit.{WrittenExit}
-use Rattle.lines.specs.declared.written.WrittenExit.TheVariants.{Halt, Next, Goto, If, Loop}
-use Rattle.lines.specs.Raw.{handed, raw_general, raw_predicate, raw_register, raw_destinations, raw_exit, raw_operand, raw_sources, raw_operation}
-use Rattle.lines.specs.Meant.{general_meant, predicate_meant, register_meant, exit_meant, operand_meant, sources_meant, destinations_meant, registers_meant, operand_named, sources_named, destinations_named, registers_named}
+use Rattle.lines.specs.Raw.{handed, raw_general, raw_predicate, raw_register, raw_destinations, raw_operand, raw_sources, raw_operation}
+use Rattle.lines.specs.Meant.{general_meant, predicate_meant, register_meant, operand_meant, sources_meant, destinations_meant, registers_meant, operand_named, sources_named, destinations_named, registers_named}
 
 no_register : (n : ℕ) (b : Bool) (e : ltb n 32 ≡ b) → b ≡ false → below n b e ≡ None
 no_register n true e h = absurd (false≢true (sym h))
@@ -37,14 +35,14 @@ beyond_registers n h = grind (arith, nat_tests)
 beyond_blocks : (n : ℕ) → ltb n 255 ≡ false → ltb n 16 ≡ false
 beyond_blocks n h = grind (arith, nat_tests)
 
-register_handed : (n : ℕ) → numbered (handed n) ≡ numbered n
+pub register_handed : (n : ℕ) → numbered (handed n) ≡ numbered n
 register_handed n = by (ltb n 255) refl
   where
     by : (b : Bool) → ltb n 255 ≡ b → numbered (cond b n 255) ≡ numbered n
     by true e = refl
     by false e = sym (no_register n (ltb n 32) refl (beyond_registers n e))
 
-block_handed : (n : ℕ) → block_numbered (handed n) ≡ block_numbered n
+pub block_handed : (n : ℕ) → block_numbered (handed n) ≡ block_numbered n
 block_handed n = by (ltb n 255) refl
   where
     by : (b : Bool) → ltb n 255 ≡ b → block_numbered (cond b n 255) ≡ block_numbered n
@@ -62,13 +60,6 @@ predicate_kept (predicate.Rotating n) = simp (register_handed n)
 pub register_kept : (x : WrittenRegister) → register_of (raw_register x) ≡ register_meant x
 register_kept (register.General g) = simp (general_kept g)
 register_kept (register.Predicate p) = simp (predicate_kept p)
-
-pub exit_kept : (x : WrittenExit) → exit_named (raw_exit x) ≡ exit_meant x
-exit_kept Halt = refl
-exit_kept Next = refl
-exit_kept (Goto t) = simp (block_handed t)
-exit_kept (If p t) = simp (predicate_kept p, block_handed t)
-exit_kept (Loop t) = simp (block_handed t)
 
 operand_kept : (a : WrittenOperand) → operand_named (raw_operand a) ≡ operand_meant a
 operand_kept (operand.Register x) = simp (register_kept x)

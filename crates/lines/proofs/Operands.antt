@@ -1,5 +1,6 @@
 -- Guards and sources, token by token. Assumes nothing.
-use Rattle.std.proofs.Common.{◌≡◌, ℕ, true, false, List, [], ◌∷◌, ◌++◌, get_or, Some, None, codes, Option, sym, refl, ap, ◌∙◌, ⊎_elim, append-nil, arith}
+use Rattle.std.proofs.Common.{◌≡◌, ℕ, Bool, true, false, List, [], ◌∷◌, ◌++◌, get_or, Some, None, codes, Option, sym, refl, ap, ◌∙◌, ⊎_elim, append-nil, arith}
+use Rattle.std.specs.Bool.{then_some}
 use Rattle.std.specs.Int.{IsInRange}
 use Rattle.std.proofs.lemmas.Bool.{false≢true, cases_Bool, cond-true, cond-false}
 use Rattle.lines.specs.declared.written.WrittenPredicate.{WrittenPredicate}
@@ -12,7 +13,7 @@ use Rattle.lines.specs.declared.written.Token.TheVariants as token
 use Rattle.lines.specs.Numbers.{Short}
 use Rattle.lines.specs.Tokens.{TokenAt}
 use Rattle.lines.specs.Written.{always, guard_text, operand_text, sources_text, predicate_name_text, predicate_number, ShortOperand, ShortSources}
-use Rattle.lines.specs.Said.{Says, Passes, Reads, operand_token}
+use Rattle.lines.specs.Said.{Says, Passes, Reads, Whole, operand_token}
 use Rattle.lines.proofs.Sayings.{none_some, some_same}
 
 -- a text begins with one byte
@@ -23,10 +24,24 @@ pub written_out : (g : WrittenPredicate) (t : List ℕ) → (t ≡ [] → ⊥) �
 written_out g t some e = ⊎_elim (λ b. absurd (some (e ∙ cond-true _ _ _ b))) (λ b. e ∙ cond-false _ _ _ b) (cases_Bool (always g))
 
 -- a guard that is written out, read up to t2
-pub guard_read : (t0 t1 t2 : List ℕ) (r : Option WrittenPredicate) → (t0 ≡ [] → ⊥) → Passes (codes " if ") t0 true t1 → Says (λ p. token.Register (name.Predicate p)) t1 r t2 → (g : WrittenPredicate) → Short (predicate_number g) → t0 ≡ guard_text g → (r ≡ Some g) × (t2 ≡ [])
+pub guard_read : (t0 t1 t2 : List ℕ) (r : Option WrittenPredicate) → (t0 ≡ [] → ⊥) → Passes (codes " if ") t0 (Some tt) t1 → Says (λ p. token.Register (name.Predicate p)) t1 r t2 → (g : WrittenPredicate) → Short (predicate_number g) → t0 ≡ guard_text g → (r ≡ Some g) × (t2 ≡ [])
 guard_read t0 t1 t2 r some p s g short e =
     let e1 = (p.complete (predicate_name_text g) (written_out g t0 some e)).1 in
     s.complete g [] (record { short = short; whole = e1 ∙ sym (append-nil (predicate_name_text g)); ends = tt })
+
+-- it stands alone at the end, and is not p1, or there is none
+pub guard_last : (t0 t1 t2 : List ℕ) (g : WrittenPredicate) (b : Bool) → (t0 ≡ [] → ⊥) → Passes (codes " if ") t0 (Some tt) t1 → Says (λ p. token.Register (name.Predicate p)) t1 (Some g) t2 → (b ≡ true → (t2 ≡ []) × (always g ≡ false)) → (t2 ≡ [] → always g ≡ false → b ≡ true) → Whole guard_text (λ g. Short (predicate_number g)) t0 (then_some b g)
+guard_last t0 t1 t2 g true some p s is back = record {
+  sound = (s.sound.short, p.sound ∙ ap (λ l. codes " if " ++ l) (s.sound.whole ∙ ap (λ l. predicate_name_text g ++ l) (is refl).0 ∙ append-nil (predicate_name_text g)) ∙ sym (cond-false _ _ _ (is refl).1));
+  complete = λ x short e. (guard_read t0 t1 t2 (Some g) some p s x short e).0;
+}
+guard_last t0 t1 t2 g false some p s is back = record {
+  sound = tt;
+  complete = λ x short e.
+      let q = guard_read t0 t1 t2 (Some g) some p s x short e in
+      let out : always g ≡ false = ⊎_elim (λ a. absurd (some (e ∙ cond-true _ _ _ (ap always (sym (some_same g x q.0)) ∙ a)))) (λ a. a) (cases_Bool (always g)) in
+      absurd (false≢true (back q.1 out));
+}
 
 pub operand_at : (a : WrittenOperand) (t : List ℕ) (b : ℕ) (bs : List ℕ) → ShortOperand a → t ≡ operand_text a ++ b ∷ bs → (IsInRange 48 57 b → ⊥) → TokenAt t (operand_token a) (b ∷ bs)
 operand_at (operand.Register x) t b bs s e d = record { short = s; whole = e; ends = d }
@@ -54,28 +69,28 @@ module _ (t0 t1 : List ℕ) where
       by (Two a b) after h e = absurd (none_some _ (two_read None s a (operand_text b ++ (codes ")" ++ after)) h.0 e).0)
 
   module _ (a : WrittenOperand) (s : Says operand_token t0 (Some a) t1) where
-    pub sources_one : (t2 : List ℕ) → Passes (codes ")") t1 true t2 → Sources t0 (Some (One a)) t2
+    pub sources_one : (t2 : List ℕ) → Passes (codes ")") t1 (Some tt) t2 → Sources t0 (Some (One a)) t2
     sources_one t2 p =
         let back = operand_back a t0 t1 s.sound in
-        record { sound = (back.0, back.1 ∙ ap (λ l. operand_text a ++ l) (p.sound refl)); complete = by }
+        record { sound = (back.0, back.1 ∙ ap (λ l. operand_text a ++ l) p.sound); complete = by }
       where
         by : (x : WrittenSources) (after : List ℕ) → ShortSources x → t0 ≡ sources_text x (codes ")" ++ after) → (Some (One a) ≡ Some x) × (t2 ≡ after)
         by (One c) after h e =
             let q = one_read (Some a) s c after h e in
             (ap (λ y. Some (One y)) (some_same a c q.0), (p.complete after q.1).1)
-        by (Two c d) after h e = absurd (omega (arith, first (sym (p.sound refl) ∙ (two_read (Some a) s c (operand_text d ++ (codes ")" ++ after)) h.0 e).1)))
+        by (Two c d) after h e = absurd (omega (arith, first (sym p.sound ∙ (two_read (Some a) s c (operand_text d ++ (codes ")" ++ after)) h.0 e).1)))
 
-    module _ (t2 : List ℕ) (p : Passes (codes ")") t1 false t2) where
-      pub sources_unclosed : (t3 : List ℕ) → Passes (codes ", ") t1 false t3 → Sources t0 None t3
+    module _ (t2 : List ℕ) (p : Passes (codes ")") t1 None t2) where
+      pub sources_unclosed : (t3 : List ℕ) → Passes (codes ", ") t1 None t3 → Sources t0 None t3
       sources_unclosed t3 q = record { sound = tt; complete = by }
         where
           by : (x : WrittenSources) (after : List ℕ) → ShortSources x → t0 ≡ sources_text x (codes ")" ++ after) → (None ≡ Some x) × (t3 ≡ after)
-          by (One c) after h e = absurd (false≢true (p.complete after (one_read (Some a) s c after h e).1).0)
+          by (One c) after h e = absurd (none_some tt (p.complete after (one_read (Some a) s c after h e).1).0)
           by (Two c d) after h e =
               let more = operand_text d ++ (codes ")" ++ after) in
-              absurd (false≢true (q.complete more (two_read (Some a) s c more h.0 e).1).0)
+              absurd (none_some tt (q.complete more (two_read (Some a) s c more h.0 e).1).0)
 
-      module _ (t3 t4 : List ℕ) (q : Passes (codes ", ") t1 true t3) where
+      module _ (t3 t4 : List ℕ) (q : Passes (codes ", ") t1 (Some tt) t3) where
         second_read : (r : Option WrittenOperand) → Says operand_token t3 r t4 → (c d : WrittenOperand) (after : List ℕ) → ShortOperand c × ShortOperand d → t0 ≡ sources_text (Two c d) (codes ")" ++ after) → (a ≡ c) × (r ≡ Some d) × (t4 ≡ codes ")" ++ after)
         second_read r s2 c d after h e =
             let more = operand_text d ++ (codes ")" ++ after) in
@@ -88,28 +103,28 @@ module _ (t0 t1 : List ℕ) where
         sources_second_none s2 rest = record { sound = tt; complete = by }
           where
             by : (x : WrittenSources) (after : List ℕ) → ShortSources x → t0 ≡ sources_text x (codes ")" ++ after) → (None ≡ Some x) × (rest ≡ after)
-            by (One c) after h e = absurd (false≢true (p.complete after (one_read (Some a) s c after h e).1).0)
+            by (One c) after h e = absurd (none_some tt (p.complete after (one_read (Some a) s c after h e).1).0)
             by (Two c d) after h e = absurd (none_some _ (second_read None s2 c d after h e).1)
 
         module _ (b : WrittenOperand) (s2 : Says operand_token t3 (Some b) t4) (t5 : List ℕ) where
-          pub sources_two_unclosed : Passes (codes ")") t4 false t5 → Sources t0 None t5
+          pub sources_two_unclosed : Passes (codes ")") t4 None t5 → Sources t0 None t5
           sources_two_unclosed z = record { sound = tt; complete = by }
             where
               by : (x : WrittenSources) (after : List ℕ) → ShortSources x → t0 ≡ sources_text x (codes ")" ++ after) → (None ≡ Some x) × (t5 ≡ after)
-              by (One c) after h e = absurd (false≢true (p.complete after (one_read (Some a) s c after h e).1).0)
-              by (Two c d) after h e = absurd (false≢true (z.complete after (second_read (Some b) s2 c d after h e).2).0)
+              by (One c) after h e = absurd (none_some tt (p.complete after (one_read (Some a) s c after h e).1).0)
+              by (Two c d) after h e = absurd (none_some tt (z.complete after (second_read (Some b) s2 c d after h e).2).0)
 
-          pub sources_two : Passes (codes ")") t4 true t5 → Sources t0 (Some (Two a b)) t5
+          pub sources_two : Passes (codes ")") t4 (Some tt) t5 → Sources t0 (Some (Two a b)) t5
           sources_two z =
               let u = operand_back a t0 t1 s.sound in
               let v = operand_back b t3 t4 s2.sound in
               record {
-                sound = ((u.0, v.0), u.1 ∙ ap (λ l. operand_text a ++ l) (q.sound refl ∙ ap (λ l. codes ", " ++ l) (v.1 ∙ ap (λ l. operand_text b ++ l) (z.sound refl))));
+                sound = ((u.0, v.0), u.1 ∙ ap (λ l. operand_text a ++ l) (q.sound ∙ ap (λ l. codes ", " ++ l) (v.1 ∙ ap (λ l. operand_text b ++ l) z.sound)));
                 complete = by;
               }
             where
               by : (x : WrittenSources) (after : List ℕ) → ShortSources x → t0 ≡ sources_text x (codes ")" ++ after) → (Some (Two a b) ≡ Some x) × (t5 ≡ after)
-              by (One c) after h e = absurd (false≢true (p.complete after (one_read (Some a) s c after h e).1).0)
+              by (One c) after h e = absurd (none_some tt (p.complete after (one_read (Some a) s c after h e).1).0)
               by (Two c d) after h e =
                   let w = second_read (Some b) s2 c d after h e in
                   (ap (λ y. Some (Two y b)) w.0 ∙ ap (λ y. Some (Two c y)) (some_same b d w.1), (z.complete after w.2).1)

@@ -1,9 +1,10 @@
 -- A run of digits, and the number that it writes. Assumes nothing.
-use Rattle.std.proofs.Common.{◌≡◌, ℕ, zero, suc, ◌+◌, ◌-◌, ◌^◌, ◌<◌, ◌≤◌, true, false, leb, List, [], ◌∷◌, ◌++◌, length, get_or, take, drop, decimal, sym, refl, ap, ◌∙◌, subst, ⊎_elim, arith, take-append-drop, rules}
+use Rattle.std.proofs.Common.{◌≡◌, ℕ, zero, suc, ◌-◌, ◌^◌, ◌<◌, ◌≤◌, true, false, cond, leb, List, [], ◌∷◌, ◌++◌, length, get_or, take, drop, decimal, sym, refl, ap, ◌∙◌, subst, ⊎_elim, arith, take-append-drop, rules}
 use Rattle.std.specs.Char.{is_ascii_digit, digit_value as digitValue}
 use Rattle.std.specs.Int.{IsInRange}
+use Rattle.std.specs.List.{prefix_len}
 use Rattle.std.specs.Str.Parse.{AllDigits, digits_value as value}
-use Rattle.std.proofs.lemmas.List.{take_rest, at_drop_more, at_drop_all, take_at, drop_at, length-take-le, get_or-take}
+use Rattle.std.proofs.lemmas.List.{take_rest, take_at, drop_at, length-take-le, get_or-take}
 use Rattle.std.proofs.lemmas.Bool.{and_parts, and_from, leb-true, le-leb, cond-true, cond-false, cases_Bool, cases_eq, cases_lt}
 use Rattle.std.proofs.lemmas.Str.Parse.{IsNumeralModel, numerals_by_value, tells_digits, digit_from_value, digits_value_short}
 use Rattle.std.proofs.lemmas.Fmt.{decimal-digits_value, digits_decimal, digits_value-decimal, length-decimal-le, decimal_nonempty, first_decimal, decimal_digit}
@@ -12,14 +13,10 @@ use Rattle.lines.specs.Numbers.{run, NoDigit, Number}
 pub own : IsNumeralModel (AllDigits 10) (value 10)
 own = numerals_by_value _ tells_digits
 
-pub run_more : (t : List ℕ) (i : ℕ) → i < length t → is_ascii_digit (get_or t i 0) ≡ true → run (drop i t) ≡ suc (run (drop (i + 1) t))
-run_more t i h e = at_drop_more run t i 0 h ∙ cond-true _ _ _ e
-
-pub run_stop : (t : List ℕ) (i : ℕ) → i < length t → is_ascii_digit (get_or t i 0) ≡ false → run (drop i t) ≡ 0
-run_stop t i h e = at_drop_more run t i 0 h ∙ cond-false _ _ _ e
-
-pub run_none : (t : List ℕ) (i : ℕ) → length t ≤ i → run (drop i t) ≡ 0
-run_none t i h = at_drop_all run t i h
+-- it is std's count of the digits at the front
+pub run_is : (t : List ℕ) → prefix_len is_ascii_digit t ≡ run t
+run_is [] = refl
+run_is (b ∷ bs) = ap (λ n. cond (is_ascii_digit b) n 0) (omega (arith, run_is bs))
 
 digit_test : (b : ℕ) → is_ascii_digit b ≡ true → IsInRange 48 57 b
 digit_test b e = let p = and_parts (leb 48 b) (leb b 57) e in (leb-true 48 b p.0, leb-true b 57 p.1)

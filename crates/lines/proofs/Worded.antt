@@ -1,5 +1,6 @@
 -- Lines that begin with a word. Assumes nothing.
 use Rattle.std.proofs.Common.{◌≡◌, ℕ, ◌<◌, ◌≤◌, List, [], ◌++◌, get_or, IfSome, Some, None, codes, decimal, Option, sym, refl, ap, ◌∙◌, arith}
+use Rattle.std.specs.Option.{option_map}
 use Rattle.lines.specs.declared.written.WrittenExit.{WrittenExit}
 use Rattle.lines.specs.declared.written.WrittenExit.TheVariants as exit
 use Rattle.lines.specs.declared.mark.Mark.{Mark}
@@ -101,36 +102,26 @@ line_placed t0 t1 m r s no_block no-exit w = record { sound = there r w.sound; c
     by (line.Operation p x) h e = w.complete (line.Operation p x) h e
     by (line.Exit x) h e = absurd (no-exit (end_told x t0 t1 m s e).0)
 
-module _ (t0 t1 : List ℕ) (s : Says token.Mark t0 (Some mark.Block) t1) where
-  pub line_block : (n : ℕ) → Whole target_text Short t1 (Some n) → Line t0 (Some (line.Block n))
-  line_block n w = record { sound = (w.sound.0, s.sound.whole ∙ ap (λ l. codes "block" ++ l) w.sound.1); complete = by }
-    where
-      by : (x : ProgramLine) → ShortProgram x → t0 ≡ program_line_text x → Some (line.Block n) ≡ Some x
-      by (line.Block k) h e = ap (λ i. Some (line.Block i)) (some_same n k (w.complete k h (block_told k t0 t1 _ s e).1))
-      by (line.Operation p x) h e = absurd (never_placed mark.Block t0 t1 s (omega arith) p (written_text x) h.0 e)
-      by (line.Exit x) h e = absurd (other mark.Block mark.Exit (λ f. omega (arith, f)) (end_told x t0 t1 _ s e).0)
+pub line_block : (t0 t1 : List ℕ) (q : Option ℕ) → Says token.Mark t0 (Some mark.Block) t1 → Whole target_text Short t1 q → Line t0 (option_map line.Block q)
+line_block t0 t1 q s w = record { sound = there q w.sound; complete = by }
+  where
+    there : (q : Option ℕ) → IfSome q (λ n. Short n × (t1 ≡ target_text n)) → IfSome (option_map line.Block q) (λ x. ShortProgram x × (t0 ≡ program_line_text x))
+    there None h = tt
+    there (Some n) h = (h.0, s.sound.whole ∙ ap (λ l. codes "block" ++ l) h.1)
 
-  pub line_no_block : Whole target_text Short t1 None → Line t0 None
-  line_no_block w = record { sound = tt; complete = by }
-    where
-      by : (x : ProgramLine) → ShortProgram x → t0 ≡ program_line_text x → None ≡ Some x
-      by (line.Block k) h e = absurd (none_some k (w.complete k h (block_told k t0 t1 _ s e).1))
-      by (line.Operation p x) h e = absurd (never_placed mark.Block t0 t1 s (omega arith) p (written_text x) h.0 e)
-      by (line.Exit x) h e = absurd (other mark.Block mark.Exit (λ f. omega (arith, f)) (end_told x t0 t1 _ s e).0)
+    by : (x : ProgramLine) → ShortProgram x → t0 ≡ program_line_text x → option_map line.Block q ≡ Some x
+    by (line.Block k) h e = ap (option_map line.Block) (w.complete k h (block_told k t0 t1 _ s e).1)
+    by (line.Operation p x) h e = absurd (never_placed mark.Block t0 t1 s (omega arith) p (written_text x) h.0 e)
+    by (line.Exit x) h e = absurd (other mark.Block mark.Exit (λ f. omega (arith, f)) (end_told x t0 t1 _ s e).0)
 
-module _ (t0 t1 : List ℕ) (s : Says token.Mark t0 (Some mark.Exit) t1) where
-  pub line_exit : (x : WrittenExit) → Whole exit_behind ShortExit t1 (Some x) → Line t0 (Some (line.Exit x))
-  line_exit x w = record { sound = (w.sound.0, s.sound.whole ∙ ap (λ l. codes "exit" ++ l) w.sound.1); complete = by }
-    where
-      by : (y : ProgramLine) → ShortProgram y → t0 ≡ program_line_text y → Some (line.Exit x) ≡ Some y
-      by (line.Block k) h e = absurd (other mark.Exit mark.Block (λ f. omega (arith, f)) (block_told k t0 t1 _ s e).0)
-      by (line.Operation p y) h e = absurd (never_placed mark.Exit t0 t1 s (omega arith) p (written_text y) h.0 e)
-      by (line.Exit y) h e = ap (λ i. Some (line.Exit i)) (some_same x y (w.complete y h (end_told y t0 t1 _ s e).1))
+pub line_exit : (t0 t1 : List ℕ) (q : Option WrittenExit) → Says token.Mark t0 (Some mark.Exit) t1 → Whole exit_behind ShortExit t1 q → Line t0 (option_map line.Exit q)
+line_exit t0 t1 q s w = record { sound = there q w.sound; complete = by }
+  where
+    there : (q : Option WrittenExit) → IfSome q (λ x. ShortExit x × (t1 ≡ exit_behind x)) → IfSome (option_map line.Exit q) (λ x. ShortProgram x × (t0 ≡ program_line_text x))
+    there None h = tt
+    there (Some x) h = (h.0, s.sound.whole ∙ ap (λ l. codes "exit" ++ l) h.1)
 
-  pub line_no_exit : Whole exit_behind ShortExit t1 None → Line t0 None
-  line_no_exit w = record { sound = tt; complete = by }
-    where
-      by : (y : ProgramLine) → ShortProgram y → t0 ≡ program_line_text y → None ≡ Some y
-      by (line.Block k) h e = absurd (other mark.Exit mark.Block (λ f. omega (arith, f)) (block_told k t0 t1 _ s e).0)
-      by (line.Operation p y) h e = absurd (never_placed mark.Exit t0 t1 s (omega arith) p (written_text y) h.0 e)
-      by (line.Exit y) h e = absurd (none_some y (w.complete y h (end_told y t0 t1 _ s e).1))
+    by : (x : ProgramLine) → ShortProgram x → t0 ≡ program_line_text x → option_map line.Exit q ≡ Some x
+    by (line.Block k) h e = absurd (other mark.Exit mark.Block (λ f. omega (arith, f)) (block_told k t0 t1 _ s e).0)
+    by (line.Operation p y) h e = absurd (never_placed mark.Exit t0 t1 s (omega arith) p (written_text y) h.0 e)
+    by (line.Exit y) h e = ap (option_map line.Exit) (w.complete y h (end_told y t0 t1 _ s e).1)

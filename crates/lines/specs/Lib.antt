@@ -1,4 +1,5 @@
 pub mod Numbers
+pub mod Begins
 pub mod Fields
 pub mod Tables
 pub mod Marks

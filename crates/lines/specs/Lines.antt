@@ -60,9 +60,12 @@ ShortProgram (line.Exit x) = ShortExit x
 abbrev pub ShortBounds : WrittenBounds → Type 0
 ShortBounds b = Short b.shortest × Short b.longest
 
--- and one class at least
+-- one class at least
+abbrev pub HasClass : Classes → Type 0
+HasClass c = (c.integer || (c.memory || c.compare)) ≡ true
+
 abbrev pub ShortDescription : DescriptionLine → Type 0
-ShortDescription (Slot n c) = Short n × ((c.integer || (c.memory || c.compare)) ≡ true)
+ShortDescription (Slot n c) = Short n × HasClass c
 ShortDescription (Integer b) = ShortBounds b
 ShortDescription (Load b) = ShortBounds b
 ShortDescription (Compare b) = ShortBounds b

@@ -1,15 +1,10 @@
--- What a token says, where one of that kind is expected. Assumes nothing.
-use Rattle.std.specs.Prelude.{◌≡◌, ℕ, Bool, true, List, [], ◌++◌, pos, negsuc, IfSome, Some, None, codes, decimal, Option}
-use Rattle.operations.specs.declared.raw.Opcode.{Opcode}
-use Rattle.lines.specs.declared.written.WrittenPredicate.{WrittenPredicate}
+-- What is read of a line, part by part. Assumes nothing.
+use Rattle.std.specs.Prelude.{◌≡◌, ℕ, List, [], ◌++◌, IfSome, Some, codes, decimal, Option}
 use Rattle.lines.specs.declared.written.WrittenRegister.{WrittenRegister}
-use Rattle.lines.specs.declared.written.WrittenRegister.TheVariants as name
 use Rattle.lines.specs.declared.written.WrittenOperand.{WrittenOperand}
 use Rattle.lines.specs.declared.written.WrittenOperand.TheVariants as operand
 use Rattle.lines.specs.declared.written.Token.{Token}
-use Rattle.lines.specs.declared.written.Token.TheVariants as token
 use Rattle.lines.specs.declared.written.Token.TheVariants.{Register, Literal}
-use Rattle.lines.specs.declared.mark.Mark.{Mark}
 use Rattle.lines.specs.declared.written.WrittenExit.{WrittenExit}
 use Rattle.lines.specs.declared.written.WrittenExit.TheVariants as exit
 use Rattle.operations.specs.declared.raw.UpToTwo.{UpToTwo}
@@ -27,47 +22,6 @@ use Rattle.lines.specs.Numbers.{Short}
 use Rattle.lines.specs.Written.{name_text, predicate_name_text, call_text, predicate_number, ShortName, ShortSources, ShortOperation}
 use Rattle.lines.specs.Tokens.{TokenAt}
 
-abbrev pub name_said : Token → Option WrittenRegister
-name_said (Register x) = Some x
-name_said (Literal z) = None
-name_said (token.Opcode o) = None
-name_said (token.Mark m) = None
-
-abbrev pub predicate_in : WrittenRegister → Option WrittenPredicate
-predicate_in (name.General g) = None
-predicate_in (name.Predicate p) = Some p
-
-abbrev pub predicate_said : Token → Option WrittenPredicate
-predicate_said (Register x) = predicate_in x
-predicate_said (Literal z) = None
-predicate_said (token.Opcode o) = None
-predicate_said (token.Mark m) = None
-
-abbrev pub number_said : Token → Option ℕ
-number_said (Register x) = None
-number_said (Literal (pos n)) = Some n
-number_said (Literal (negsuc n)) = None
-number_said (token.Opcode o) = None
-number_said (token.Mark m) = None
-
-abbrev pub operand_said : Token → Option WrittenOperand
-operand_said (Register x) = Some (operand.Register x)
-operand_said (Literal z) = Some (operand.Literal z)
-operand_said (token.Opcode o) = None
-operand_said (token.Mark m) = None
-
-abbrev pub opcode_said : Token → Option Opcode
-opcode_said (Register x) = None
-opcode_said (Literal z) = None
-opcode_said (token.Opcode o) = Some o
-opcode_said (token.Mark m) = None
-
-abbrev pub mark_said : Token → Option Mark
-mark_said (Register x) = None
-mark_said (Literal z) = None
-mark_said (token.Opcode o) = None
-mark_said (token.Mark m) = Some m
-
 abbrev pub operand_token : WrittenOperand → Token
 operand_token (operand.Register x) = Register x
 operand_token (operand.Literal z) = Literal z
@@ -78,9 +32,9 @@ pub record Says {X : Type 0} (token : X → Token) (text : List ℕ) (r : Option
   pub complete : (x : X) (after : List ℕ) → TokenAt text (token x) after → (r ≡ Some x) × (rest ≡ after)
 
 -- the word is read from text to rest, or not; there is only one such rest
-pub record Passes (word text : List ℕ) (r : Bool) (rest : List ℕ) : Type 0 where
-  pub sound : r ≡ true → text ≡ word ++ rest
-  pub complete : (after : List ℕ) → text ≡ word ++ after → (r ≡ true) × (rest ≡ after)
+pub record Passes (word text : List ℕ) (r : Option (Unit {0})) (rest : List ℕ) : Type 0 where
+  pub sound : IfSome r (λ _. text ≡ word ++ rest)
+  pub complete : (after : List ℕ) → text ≡ word ++ after → (r ≡ Some tt) × (rest ≡ after)
 
 -- text as a whole is the text of what is read, or of nothing
 pub record Whole {X : Type 0} (line : X → List ℕ) (Short : X → Type 0) (text : List ℕ) (r : Option X) : Type 0 where

@@ -1,78 +1,33 @@
 // The classes of a slot as they are written.
-ghost use Rattle.std.specs.Prelude.{◌≡◌, true, ◌||◌, IfSome, Some};
-ghost use Rattle.lines.specs.declared.written.Classes.{Classes};
-ghost use Rattle.lines.specs.Lines.{classes_text};
+ghost use Rattle.std.specs.Prelude.{◌≡◌, ◌≢◌, ℕ, false, cond, List, [], ◌++◌};
+ghost use Rattle.lines.specs.Lines.{classes_text, HasClass};
+ghost use Rattle.lines.specs.Said.{Whole};
 
-use crate::tables::begins;
+use crate::words::after_word;
 use crate::written::Classes;
 
-// Longer words come before those that they begin with.
-const CLASSES: [(Classes, &'static [u8]); 7] = [
-    (
-        Classes {
-            integer: true,
-            memory: true,
-            compare: true,
-        },
-        b"IMC",
-    ),
-    (
-        Classes {
-            integer: true,
-            memory: true,
-            compare: false,
-        },
-        b"IM",
-    ),
-    (
-        Classes {
-            integer: true,
-            memory: false,
-            compare: true,
-        },
-        b"IC",
-    ),
-    (
-        Classes {
-            integer: true,
-            memory: false,
-            compare: false,
-        },
-        b"I",
-    ),
-    (
-        Classes {
-            integer: false,
-            memory: true,
-            compare: true,
-        },
-        b"MC",
-    ),
-    (
-        Classes {
-            integer: false,
-            memory: true,
-            compare: false,
-        },
-        b"M",
-    ),
-    (
-        Classes {
-            integer: false,
-            memory: false,
-            compare: true,
-        },
-        b"C",
-    ),
-];
+// Whether `letter` is the front of `text`, and what follows it then.
+fn letter<'a>(text: &'a [u8], letter: &[u8]) -> (bool, &'a [u8])
+    ensures found { text.now ≡ cond result.0 letter.now [] ++ result.1.now }
+    ensures missed { result.0 ≡ false → (rest : List ℕ) → text.now ≢ letter.now ++ rest }
+{
+    match after_word(text, letter) {
+        Some(rest) => (true, rest),
+        None => (false, text),
+    }
+}
 
 // The classes that `text` is the letters of: one at least.
 pub(crate) fn classes(text: &[u8]) -> Option<Classes>
-    ensures sound { IfSome result (λ k. (text.now ≡ classes_text k) × ((k.integer || (k.memory || k.compare)) ≡ true)) }
-    ensures complete { (k : Classes) → (k.integer || (k.memory || k.compare)) ≡ true → text.now ≡ classes_text k → result ≡ Some k }
+    ensures { Whole classes_text HasClass text.now result }
 {
-    let Some((letters, rest)) = begins(&CLASSES, text) else {
-        return None;
-    };
-    if rest.is_empty() { Some(letters) } else { None }
+    let (integer, text) = letter(text, b"I");
+    let (memory, text) = letter(text, b"M");
+    let (compare, text) = letter(text, b"C");
+    let some = integer || memory || compare;
+    (some && text.is_empty()).then_some(Classes {
+        integer,
+        memory,
+        compare,
+    })
 }

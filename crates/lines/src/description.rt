@@ -6,7 +6,7 @@ ghost use Rattle.lines.specs.Said.{Whole, spaced_bounds, slot_behind, bounds_of,
 ghost use Rattle.lines.specs.declared.written.DescriptionLine.{DescriptionLine};
 
 use crate::classes::classes;
-use crate::expect::{marks, number, word};
+use crate::expect::{expect, marks};
 use crate::mark::{Latency, Mark};
 use crate::place::Reader;
 use crate::program::last_number;
@@ -16,18 +16,10 @@ use crate::written::{DescriptionLine, WrittenBounds};
 fn bounds(reader: &mut Reader) -> Option<WrittenBounds>
     ensures { Whole spaced_bounds ShortBounds (left reader.old) result }
 {
-    if !marks(reader, &[Mark::Space]) {
-        return None;
-    }
-    let Some(shortest) = number(reader) else {
-        return None;
-    };
-    if !marks(reader, &[Mark::Space]) {
-        return None;
-    }
-    let Some(longest) = last_number(reader) else {
-        return None;
-    };
+    marks(reader, &[Mark::Space])?;
+    let shortest = expect(reader)?;
+    marks(reader, &[Mark::Space])?;
+    let longest = last_number(reader)?;
     Some(WrittenBounds { shortest, longest })
 }
 
@@ -35,18 +27,10 @@ fn bounds(reader: &mut Reader) -> Option<WrittenBounds>
 fn slot(reader: &mut Reader) -> Option<DescriptionLine>
     ensures { Whole slot_behind ShortSlot (left reader.old) result }
 {
-    if !marks(reader, &[Mark::Space]) {
-        return None;
-    }
-    let Some(number) = number(reader) else {
-        return None;
-    };
-    if !marks(reader, &[Mark::Space]) {
-        return None;
-    }
-    let Some(classes) = classes(reader.rest()) else {
-        return None;
-    };
+    marks(reader, &[Mark::Space])?;
+    let number = expect(reader)?;
+    marks(reader, &[Mark::Space])?;
+    let classes = classes(reader.rest())?;
     Some(DescriptionLine::Slot { number, classes })
 }
 
@@ -63,15 +47,9 @@ fn with_bounds(latency: Latency, bounds: WrittenBounds) -> DescriptionLine
 fn said(reader: &mut Reader) -> Option<DescriptionLine>
     ensures { Whole description_line_text ShortDescription (left reader.old) result }
 {
-    let Some(first) = word(reader) else {
-        return None;
-    };
-    match first {
+    match expect(reader)? {
         Mark::Slot => slot(reader),
-        Mark::Latency(latency) => match bounds(reader) {
-            Some(bounds) => Some(with_bounds(latency, bounds)),
-            None => None,
-        },
+        Mark::Latency(latency) => Some(with_bounds(latency, bounds(reader)?)),
         _ => None,
     }
 }

@@ -1,123 +1,31 @@
 // Items of one kind, where they are expected.
-ghost use Rattle.std.specs.Prelude.{◌≡◌, pos, Decides};
-ghost use Rattle.lines.specs.Items.{left, item_token};
+ghost use Rattle.lines.specs.Items.{left};
 ghost use Rattle.lines.specs.Marks.{mark_text, marks_text};
-ghost use Rattle.lines.specs.Said.{Says, Passes, operand_token};
-ghost use Rattle.lines.specs.declared.written.Token.{Token};
-ghost use Rattle.lines.specs.declared.written.Token.TheVariants as token;
-ghost use Rattle.lines.specs.declared.written.WrittenRegister.TheVariants as name;
+ghost use Rattle.lines.specs.Said.{Says, Passes};
 
-use crate::item::Item;
 use crate::mark::Mark;
 use crate::place::Reader;
-use crate::written::{Token, WrittenOperand, WrittenPredicate, WrittenRegister};
-use operations::Opcode;
+use crate::saying::Said;
 
-impl<'a> Item<'a> {
-    fn token(self) -> Token
-        ensures { result ≡ item_token self.entry }
-    {
-        match self {
-            Item::Register { name, .. } => Token::Register(name),
-            Item::Literal { value, .. } => Token::Literal(value),
-            Item::Opcode { opcode, .. } => Token::Opcode(opcode),
-            Item::Mark { mark, .. } => Token::Mark(mark),
-        }
-    }
-}
-
-fn said(reader: &mut Reader) -> Option<Token>
-    ensures { Says (λ k. k) (left reader.old) result (left reader.new) }
+// What the next item says, if it says a T.
+pub(crate) fn expect<T: Said>(reader: &mut Reader) -> Option<T>
+    ensures { Says T.token (left reader.old) result (left reader.new) }
 {
-    let Some(item) = reader.next() else {
-        return None;
-    };
-    Some(item.token())
+    T::from_token(reader.next()?.token)
 }
 
-pub(crate) fn register(reader: &mut Reader) -> Option<WrittenRegister>
-    ensures { Says token.Register (left reader.old) result (left reader.new) }
-{
-    let Some(token) = said(reader) else {
-        return None;
-    };
-    token.name()
-}
-
-pub(crate) fn predicate(reader: &mut Reader) -> Option<WrittenPredicate>
-    ensures { Says (λ p. token.Register (name.Predicate p)) (left reader.old) result (left reader.new) }
-{
-    let Some(token) = said(reader) else {
-        return None;
-    };
-    token.predicate()
-}
-
-pub(crate) fn number(reader: &mut Reader) -> Option<u64>
-    ensures { Says (λ n. token.Literal (pos n)) (left reader.old) result (left reader.new) }
-{
-    let Some(token) = said(reader) else {
-        return None;
-    };
-    token.number()
-}
-
-pub(crate) fn operand(reader: &mut Reader) -> Option<WrittenOperand>
-    ensures { Says operand_token (left reader.old) result (left reader.new) }
-{
-    let Some(token) = said(reader) else {
-        return None;
-    };
-    token.operand()
-}
-
-pub(crate) fn opcode(reader: &mut Reader) -> Option<Opcode>
-    ensures { Says token.Opcode (left reader.old) result (left reader.new) }
-{
-    let Some(token) = said(reader) else {
-        return None;
-    };
-    token.opcode()
-}
-
-// A word, by its mark.
-pub(crate) fn word(reader: &mut Reader) -> Option<Mark>
-    ensures { Says token.Mark (left reader.old) result (left reader.new) }
-{
-    let Some(token) = said(reader) else {
-        return None;
-    };
-    token.mark()
-}
-
-impl Token {
-    fn is_mark(self, expected: Mark) -> bool
-        ensures { Decides result (self ≡ token.Mark expected) }
-    {
-        match self {
-            Token::Mark(mark) => mark == expected,
-            _ => false,
-        }
-    }
-}
-
-fn mark(reader: &mut Reader, expected: Mark) -> bool
+fn mark(reader: &mut Reader, expected: Mark) -> Option<()>
     ensures { Passes (mark_text expected) (left reader.old) result (left reader.new) }
 {
-    let Some(token) = said(reader) else {
-        return false;
-    };
-    token.is_mark(expected)
+    (expect::<Mark>(reader)? == expected).then_some(())
 }
 
 // The marks, one behind the other.
-pub(crate) fn marks(reader: &mut Reader, expected: &[Mark]) -> bool
+pub(crate) fn marks(reader: &mut Reader, expected: &[Mark]) -> Option<()>
     ensures { Passes (marks_text expected.now) (left reader.old) result (left reader.new) }
 {
     for next in expected {
-        if !mark(reader, *next) {
-            return false;
-        }
+        mark(reader, *next)?;
     }
-    true
+    Some(())
 }

@@ -1,5 +1,6 @@
 // Literals as they are written.
-ghost use Rattle.std.specs.Prelude.{◌≡◌, ℕ, ◌-◌, ◌^◌, ◌<◌, List, ℤ, negsuc, IfSome, MatchOption};
+ghost use Rattle.std.specs.Prelude.{◌≡◌, ◌-◌, ◌^◌, ◌<◌, negsuc};
+ghost use Rattle.lines.specs.Begins.{Begins};
 ghost use Rattle.lines.specs.declared.written.Token.TheVariants as token;
 ghost use Rattle.lines.specs.Tokens.{TokenAt};
 
@@ -18,8 +19,7 @@ fn negated(n: u64) -> i64
 
 // The literal at the front of `text`, and what follows it.
 pub(crate) fn literal<'a>(text: &'a [u8]) -> Option<(i64, &'a [u8])>
-    ensures sound { IfSome result (λ x. TokenAt text.now (token.Literal x.0) x.1.now) }
-    ensures complete { (z : ℤ) (rest : List ℕ) → TokenAt text.now (token.Literal z) rest → MatchOption result ⊥ (λ x. (x.0 ≡ z) × (x.1.now ≡ rest)) }
+    ensures { Begins (λ z rest. TokenAt text.now (token.Literal z) rest) result }
 {
     if let Some((n, rest)) = field(text, b"-") {
         if n < LEAST_NEGATED {
@@ -27,8 +27,6 @@ pub(crate) fn literal<'a>(text: &'a [u8]) -> Option<(i64, &'a [u8])>
         }
         return Some((negated(n), rest));
     }
-    let Some((n, rest)) = number(text) else {
-        return None;
-    };
+    let (n, rest) = number(text)?;
     Some((n as i64, rest))
 }

@@ -1,6 +1,5 @@
 // Marks as they are written.
-ghost use Rattle.std.specs.Prelude.{◌≡◌, ℕ, List, IfSome, MatchOption};
-ghost use Rattle.lines.specs.declared.mark.Mark.{Mark};
+ghost use Rattle.lines.specs.Begins.{Begins};
 ghost use Rattle.lines.specs.declared.written.Token.TheVariants as token;
 ghost use Rattle.lines.specs.Tokens.{TokenAt};
 
@@ -30,8 +29,7 @@ const MARKS: [(Mark, &'static [u8]); 18] = [
 
 // The mark at the front of `text`, and what follows it.
 pub(crate) fn mark<'a>(text: &'a [u8]) -> Option<(Mark, &'a [u8])>
-    ensures sound { IfSome result (λ x. TokenAt text.now (token.Mark x.0) x.1.now) }
-    ensures complete { (m : Mark) (rest : List ℕ) → TokenAt text.now (token.Mark m) rest → MatchOption result ⊥ (λ x. (x.0 ≡ m) × (x.1.now ≡ rest)) }
+    ensures { Begins (λ m rest. TokenAt text.now (token.Mark m) rest) result }
 {
     begins(&MARKS, text)
 }

@@ -1,5 +1,6 @@
 // Numbers as they are written.
-ghost use Rattle.std.specs.Prelude.{◌≡◌, ℕ, ◌≤◌, List, length, take, IfSome, MatchOption};
+ghost use Rattle.std.specs.Prelude.{◌≡◌, ◌≤◌, length, take};
+ghost use Rattle.lines.specs.Begins.{Begins};
 ghost use Rattle.std.specs.Str.Parse.{AllDigits, digits_value};
 ghost use Rattle.lines.specs.Numbers.{run, Number};
 
@@ -13,17 +14,14 @@ fn digit_count(text: &[u8]) -> usize
     ensures within { result ≤ length text.now }
     ensures all { AllDigits 10 (take result text.now) }
 {
-    let mut n = 0;
-    while n < text.len() && text[n].is_ascii_digit() {
-        n += 1;
-    }
-    n
+    text.iter().take_while(|b| b.is_ascii_digit()).count()
 }
 
 fn digits_value(digits: &[u8]) -> u64
     requires { (length digits.now ≤ 10) × (AllDigits 10 digits.now) }
     ensures { result ≡ digits_value 10 digits.now }
 {
+    // In a `fold` the closure would have to show that each sum fits.
     let mut n = 0u64;
     for b in digits {
         n = n * 10 + u64::from(*b - b'0');
@@ -33,8 +31,7 @@ fn digits_value(digits: &[u8]) -> u64
 
 // The number at the front of `text`, and what follows it.
 pub(crate) fn number<'a>(text: &'a [u8]) -> Option<(u64, &'a [u8])>
-    ensures sound { IfSome result (λ x. Number text.now x.0 x.1.now) }
-    ensures complete { (n : ℕ) (rest : List ℕ) → Number text.now n rest → MatchOption result ⊥ (λ x. (x.0 ≡ n) × (x.1.now ≡ rest)) }
+    ensures { Begins (Number text.now) result }
 {
     let n = digit_count(text);
     if n > MOST_DIGITS || n == 0 {

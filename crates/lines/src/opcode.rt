@@ -1,9 +1,7 @@
 // Opcodes as they are written.
-ghost use Rattle.std.specs.Prelude.{◌≡◌, ℕ, List, ◌++◌, IfSome, codes, MatchOption};
+ghost use Rattle.std.specs.Prelude.{◌≡◌, ◌++◌, codes};
 ghost use Rattle.opcodes.specs.Texts.{condition_text, action_text};
-ghost use Rattle.opcodes.specs.declared.compare.Condition.{Condition};
-ghost use Rattle.opcodes.specs.declared.compare.Action.{Action};
-ghost use Rattle.operations.specs.declared.raw.Opcode.{Opcode};
+ghost use Rattle.lines.specs.Begins.{Begins};
 ghost use Rattle.lines.specs.declared.written.Token.TheVariants as token;
 ghost use Rattle.lines.specs.Tokens.{TokenAt};
 
@@ -60,55 +58,36 @@ const ACTIONS: [(Action, &'static [u8]); 8] = [
 
 // The condition at the front of `text`, and what follows the point behind it.
 fn condition<'a>(text: &'a [u8]) -> Option<(Condition, &'a [u8])>
-    ensures sound { IfSome result (λ x. text.now ≡ (condition_text x.0 ++ codes ".") ++ x.1.now) }
-    ensures complete { (k : Condition) (rest : List ℕ) → text.now ≡ (condition_text k ++ codes ".") ++ rest → MatchOption result ⊥ (λ x. (x.0 ≡ k) × (x.1.now ≡ rest)) }
+    ensures { Begins (λ k rest. text.now ≡ (condition_text k ++ codes ".") ++ rest) result }
 {
     begins(&CONDITIONS, text)
 }
 
 fn action<'a>(text: &'a [u8]) -> Option<(Action, &'a [u8])>
-    ensures sound { IfSome result (λ x. text.now ≡ action_text x.0 ++ x.1.now) }
-    ensures complete { (a : Action) (rest : List ℕ) → text.now ≡ action_text a ++ rest → MatchOption result ⊥ (λ x. (x.0 ≡ a) × (x.1.now ≡ rest)) }
+    ensures { Begins (λ a rest. text.now ≡ action_text a ++ rest) result }
 {
     begins(&ACTIONS, text)
 }
 
 // The compare whose text up to the condition stands before `text`.
 fn compare<'a>(text: &'a [u8]) -> Option<(Opcode, &'a [u8])>
-    ensures sound { IfSome result (λ x. TokenAt (codes "CMPP.W." ++ text.now) (token.Opcode x.0) x.1.now) }
-    ensures complete { (o : Opcode) (rest : List ℕ) → TokenAt (codes "CMPP.W." ++ text.now) (token.Opcode o) rest → MatchOption result ⊥ (λ x. (x.0 ≡ o) × (x.1.now ≡ rest)) }
+    ensures { Begins (λ o rest. TokenAt (codes "CMPP.W." ++ text.now) (token.Opcode o) rest) result }
 {
-    let Some((when, actions)) = condition(text) else {
-        return None;
-    };
-    let Some((first, point)) = action(actions) else {
-        return None;
-    };
-    let Some(behind) = after_word(point, b".") else {
-        return None;
-    };
-    let Some((second, rest)) = action(behind) else {
-        return None;
-    };
-    let Some(_) = after_word(rest, b"(") else {
-        return None;
-    };
+    let (when, actions) = condition(text)?;
+    let (first, point) = action(actions)?;
+    let (second, rest) = action(after_word(point, b".")?)?;
+    after_word(rest, b"(")?;
     Some((Opcode::Compare(when, first, second), rest))
 }
 
 // The opcode at the front of `text`, and the bracket behind it with what follows.
 pub(crate) fn opcode<'a>(text: &'a [u8]) -> Option<(Opcode, &'a [u8])>
-    ensures sound { IfSome result (λ x. TokenAt text.now (token.Opcode x.0) x.1.now) }
-    ensures complete { (o : Opcode) (rest : List ℕ) → TokenAt text.now (token.Opcode o) rest → MatchOption result ⊥ (λ x. (x.0 ≡ o) × (x.1.now ≡ rest)) }
+    ensures { Begins (λ o rest. TokenAt text.now (token.Opcode o) rest) result }
 {
     if let Some(after) = after_word(text, b"CMPP.W.") {
         return compare(after);
     }
-    let Some((opcode, rest)) = begins(&OPCODES, text) else {
-        return None;
-    };
-    let Some(_) = after_word(rest, b"(") else {
-        return None;
-    };
+    let (opcode, rest) = begins(&OPCODES, text)?;
+    after_word(rest, b"(")?;
     Some((opcode, rest))
 }

@@ -3,66 +3,42 @@ ghost use Rattle.std.specs.Prelude.{◌≡◌, ◌++◌, codes};
 ghost use Rattle.lines.specs.Items.{left};
 ghost use Rattle.lines.specs.Numbers.{Short};
 ghost use Rattle.lines.specs.Said.{Reads, Whole, call_of, behind_text, FirstIs, ShortCall};
-ghost use Rattle.lines.specs.Written.{always, guard_text, sources_text, written_text, predicate_number, ShortSources, ShortOperation};
+ghost use Rattle.lines.specs.Written.{guard_text, sources_text, written_text, predicate_number, ShortSources, ShortOperation};
 
-use crate::expect::{marks, opcode, operand, predicate, register};
+use crate::expect::{expect, marks};
 use crate::mark::Mark;
 use crate::place::Reader;
 use crate::written::{WrittenOperation, WrittenPredicate, WrittenRegister, WrittenSources};
 use operations::UpToTwo;
 
-const ALWAYS: u64 = 1;
-
-// Whether it is p1, which is not written as a guard.
-fn is_always(name: WrittenPredicate) -> bool
-    ensures { result ≡ always name }
-{
-    match name {
-        WrittenPredicate::Static(number) => number == ALWAYS,
-        WrittenPredicate::Rotating(_) => false,
-    }
-}
+// p1, which is not written as a guard.
+const ALWAYS: WrittenPredicate = WrittenPredicate::Static(1);
 
 // The guard, up to the end of the line.
 fn guard(reader: &mut Reader) -> Option<WrittenPredicate>
     ensures { Whole guard_text (λ g. Short (predicate_number g)) (left reader.old) result }
 {
     if reader.is_done() {
-        return Some(WrittenPredicate::Static(ALWAYS));
+        return Some(ALWAYS);
     }
-    if !marks(reader, &[Mark::Space, Mark::If, Mark::Space]) {
-        return None;
-    }
-    let Some(name) = predicate(reader) else {
-        return None;
-    };
-    if !reader.is_done() {
-        return None;
-    }
-    if is_always(name) { None } else { Some(name) }
+    marks(reader, &[Mark::Space, Mark::If, Mark::Space])?;
+    let name = expect(reader)?;
+    (reader.is_done() && name != ALWAYS).then_some(name)
 }
 
 // The sources, and the bracket behind them.
 fn sources(reader: &mut Reader) -> Option<WrittenSources>
     ensures { Reads (λ s rest. sources_text s (codes ")" ++ rest)) ShortSources (left reader.old) result (left reader.new) }
 {
-    let Some(first) = operand(reader) else {
-        return None;
-    };
+    let first = expect(reader)?;
     let mut ahead = *reader;
-    if marks(&mut ahead, &[Mark::Close]) {
+    if marks(&mut ahead, &[Mark::Close]).is_some() {
         *reader = ahead;
         return Some(WrittenSources::One(first));
     }
-    if !marks(reader, &[Mark::Comma, Mark::Space]) {
-        return None;
-    }
-    let Some(second) = operand(reader) else {
-        return None;
-    };
-    if !marks(reader, &[Mark::Close]) {
-        return None;
-    }
+    marks(reader, &[Mark::Comma, Mark::Space])?;
+    let second = expect(reader)?;
+    marks(reader, &[Mark::Close])?;
     Some(WrittenSources::Two(first, second))
 }
 
@@ -70,18 +46,10 @@ fn sources(reader: &mut Reader) -> Option<WrittenSources>
 fn call(reader: &mut Reader, destinations: UpToTwo<WrittenRegister>) -> Option<WrittenOperation>
     ensures { Whole call_of (λ w. (w.destinations ≡ destinations) × ShortCall w) (left reader.old) result }
 {
-    let Some(opcode) = opcode(reader) else {
-        return None;
-    };
-    if !marks(reader, &[Mark::Open]) {
-        return None;
-    }
-    let Some(sources) = sources(reader) else {
-        return None;
-    };
-    let Some(guard) = guard(reader) else {
-        return None;
-    };
+    let opcode = expect(reader)?;
+    marks(reader, &[Mark::Open])?;
+    let sources = sources(reader)?;
+    let guard = guard(reader)?;
     Some(WrittenOperation {
         opcode,
         guard,
@@ -95,27 +63,21 @@ fn behind(reader: &mut Reader, first: WrittenRegister) -> Option<WrittenOperatio
     ensures { Whole behind_text (λ w. FirstIs first w.destinations × ShortCall w) (left reader.old) result }
 {
     let mut ahead = *reader;
-    if !marks(&mut ahead, &[Mark::Comma, Mark::Space]) {
-        if !marks(reader, &[Mark::Space, Mark::Equals, Mark::Space]) {
-            return None;
-        }
-        return call(reader, UpToTwo::One(first));
+    if marks(&mut ahead, &[Mark::Comma, Mark::Space]).is_some() {
+        let second = expect(&mut ahead)?;
+        marks(&mut ahead, &[Mark::Space, Mark::Equals, Mark::Space])?;
+        return call(&mut ahead, UpToTwo::Two(first, second));
     }
-    let Some(second) = register(&mut ahead) else {
-        return None;
-    };
-    if !marks(&mut ahead, &[Mark::Space, Mark::Equals, Mark::Space]) {
-        return None;
-    }
-    call(&mut ahead, UpToTwo::Two(first, second))
+    marks(reader, &[Mark::Space, Mark::Equals, Mark::Space])?;
+    call(reader, UpToTwo::One(first))
 }
 
 pub(crate) fn operation(reader: &mut Reader) -> Option<WrittenOperation>
     ensures { Whole written_text ShortOperation (left reader.old) result }
 {
     let mut ahead = *reader;
-    let Some(first) = register(&mut ahead) else {
-        return call(reader, UpToTwo::Zero);
-    };
-    behind(&mut ahead, first)
+    match expect(&mut ahead) {
+        Some(first) => behind(&mut ahead, first),
+        None => call(reader, UpToTwo::Zero),
+    }
 }

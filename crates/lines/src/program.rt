@@ -6,7 +6,7 @@ ghost use Rattle.lines.specs.Numbers.{Short};
 ghost use Rattle.lines.specs.Said.{Reads, Whole, branch_text, ShortBranch, target_text, exit_behind, ShortPlaced};
 ghost use Rattle.lines.specs.declared.written.ProgramLine.{ProgramLine};
 
-use crate::expect::{marks, number, predicate, word};
+use crate::expect::{expect, marks};
 use crate::mark::Mark;
 use crate::operation::operation;
 use crate::place::Reader;
@@ -17,22 +17,14 @@ fn position(reader: &mut Reader) -> Option<Option<WrittenPosition>>
     ensures { Reads position_text ShortPosition (left reader.old) result (left reader.new) }
 {
     let mut ahead = *reader;
-    if marks(&mut ahead, &[Mark::Unplaced]) {
+    if marks(&mut ahead, &[Mark::Unplaced]).is_some() {
         *reader = ahead;
         return Some(None);
     }
-    let Some(cycle) = number(reader) else {
-        return None;
-    };
-    if !marks(reader, &[Mark::Colon]) {
-        return None;
-    }
-    let Some(slot) = number(reader) else {
-        return None;
-    };
-    if !marks(reader, &[Mark::Space]) {
-        return None;
-    }
+    let cycle = expect(reader)?;
+    marks(reader, &[Mark::Colon])?;
+    let slot = expect(reader)?;
+    marks(reader, &[Mark::Space])?;
     Some(Some(WrittenPosition { cycle, slot }))
 }
 
@@ -40,19 +32,15 @@ fn position(reader: &mut Reader) -> Option<Option<WrittenPosition>>
 pub(crate) fn last_number(reader: &mut Reader) -> Option<u64>
     ensures { Whole decimal Short (left reader.old) result }
 {
-    let Some(number) = number(reader) else {
-        return None;
-    };
-    if reader.is_done() { Some(number) } else { None }
+    let number = expect(reader)?;
+    reader.is_done().then_some(number)
 }
 
 // A space and a number, up to the end of the line.
 fn target(reader: &mut Reader) -> Option<u64>
     ensures { Whole target_text Short (left reader.old) result }
 {
-    if !marks(reader, &[Mark::Space]) {
-        return None;
-    }
+    marks(reader, &[Mark::Space])?;
     last_number(reader)
 }
 
@@ -60,18 +48,10 @@ fn target(reader: &mut Reader) -> Option<u64>
 fn branch(reader: &mut Reader) -> Option<WrittenExit>
     ensures { Whole branch_text ShortBranch (left reader.old) result }
 {
-    if !marks(reader, &[Mark::Space]) {
-        return None;
-    }
-    let Some(predicate) = predicate(reader) else {
-        return None;
-    };
-    if !marks(reader, &[Mark::Space, Mark::Goto]) {
-        return None;
-    }
-    let Some(target) = target(reader) else {
-        return None;
-    };
+    marks(reader, &[Mark::Space])?;
+    let predicate = expect(reader)?;
+    marks(reader, &[Mark::Space, Mark::Goto])?;
+    let target = target(reader)?;
     Some(WrittenExit::If { predicate, target })
 }
 
@@ -79,32 +59,11 @@ fn branch(reader: &mut Reader) -> Option<WrittenExit>
 fn exit(reader: &mut Reader) -> Option<WrittenExit>
     ensures { Whole exit_text ShortExit (left reader.old) result }
 {
-    let Some(word) = word(reader) else {
-        return None;
-    };
-    match word {
-        Mark::Halt => {
-            if reader.is_done() {
-                Some(WrittenExit::Halt)
-            } else {
-                None
-            }
-        }
-        Mark::Next => {
-            if reader.is_done() {
-                Some(WrittenExit::Next)
-            } else {
-                None
-            }
-        }
-        Mark::Goto => match target(reader) {
-            Some(target) => Some(WrittenExit::Goto(target)),
-            None => None,
-        },
-        Mark::Loop => match target(reader) {
-            Some(target) => Some(WrittenExit::Loop(target)),
-            None => None,
-        },
+    match expect(reader)? {
+        Mark::Halt => reader.is_done().then_some(WrittenExit::Halt),
+        Mark::Next => reader.is_done().then_some(WrittenExit::Next),
+        Mark::Goto => target(reader).map(WrittenExit::Goto),
+        Mark::Loop => target(reader).map(WrittenExit::Loop),
         Mark::If => branch(reader),
         _ => None,
     }
@@ -114,9 +73,7 @@ fn exit(reader: &mut Reader) -> Option<WrittenExit>
 fn exit_line(reader: &mut Reader) -> Option<WrittenExit>
     ensures { Whole exit_behind ShortExit (left reader.old) result }
 {
-    if !marks(reader, &[Mark::Space]) {
-        return None;
-    }
+    marks(reader, &[Mark::Space])?;
     exit(reader)
 }
 
@@ -124,12 +81,8 @@ fn exit_line(reader: &mut Reader) -> Option<WrittenExit>
 fn placed(reader: &mut Reader) -> Option<ProgramLine>
     ensures { Whole program_line_text ShortPlaced (left reader.old) result }
 {
-    let Some(position) = position(reader) else {
-        return None;
-    };
-    let Some(operation) = operation(reader) else {
-        return None;
-    };
+    let position = position(reader)?;
+    let operation = operation(reader)?;
     Some(ProgramLine::Operation {
         position,
         operation,
@@ -140,18 +93,9 @@ fn said(reader: &mut Reader) -> Option<ProgramLine>
     ensures { Whole program_line_text ShortProgram (left reader.old) result }
 {
     let mut ahead = *reader;
-    let Some(first) = word(&mut ahead) else {
-        return placed(reader);
-    };
-    match first {
-        Mark::Block => match target(&mut ahead) {
-            Some(number) => Some(ProgramLine::Block(number)),
-            None => None,
-        },
-        Mark::Exit => match exit_line(&mut ahead) {
-            Some(exit) => Some(ProgramLine::Exit(exit)),
-            None => None,
-        },
+    match expect(&mut ahead) {
+        Some(Mark::Block) => target(&mut ahead).map(ProgramLine::Block),
+        Some(Mark::Exit) => exit_line(&mut ahead).map(ProgramLine::Exit),
         _ => placed(reader),
     }
 }

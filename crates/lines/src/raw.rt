@@ -1,9 +1,10 @@
 // A written operation as it is handed in.
 ghost use Rattle.std.specs.Prelude.{◌≡◌};
-ghost use Rattle.lines.specs.Raw.{in_range, handed, raw_general, raw_predicate, raw_register, raw_destinations, raw_exit, raw_operand, raw_sources, raw_operation, operand_held, literals_held};
+ghost use Rattle.lines.specs.Raw.{handed, raw_general, raw_predicate, raw_register, raw_destinations, raw_exit, raw_operand, raw_sources, raw_operation, operand_held, literals_held};
 ghost use Rattle.lines.specs.Meant.{general_meant, predicate_meant, register_meant, exit_meant, registers_meant, registers_named};
 ghost use Rattle.registers.specs.Names.{general_of, predicate_of, register_of};
-ghost use Rattle.blocks.specs.Exits.{exit_named};
+ghost use Rattle.registers.specs.Registers.{numbered};
+ghost use Rattle.blocks.specs.Exits.{block_numbered, exit_named};
 
 use crate::written::{
     WrittenExit, WrittenGeneral, WrittenOperand, WrittenOperation, WrittenPredicate,
@@ -18,13 +19,11 @@ const MISSING: u8 = 255;
 
 // The number of a register or a block as it is handed in.
 fn handed(number: u64) -> u8
-    ensures { result ≡ handed number }
+    ensures value { result ≡ handed number }
+    ensures register { numbered result ≡ numbered number }
+    ensures block { block_numbered result ≡ block_numbered number }
 {
-    if number < MISSING as u64 {
-        number as u8
-    } else {
-        MISSING
-    }
+    u8::try_from(number).unwrap_or(MISSING)
 }
 
 impl WrittenGeneral {
@@ -94,20 +93,14 @@ impl WrittenExit {
     }
 }
 
-// Whether 32 bits hold the signed number.
-fn held(z: i64) -> bool
-    ensures { result ≡ in_range z }
-{
-    z >= -2147483648 && z < 2147483648
-}
-
 impl WrittenOperand {
+    // Whether 32 bits hold it.
     fn held(self) -> bool
         ensures { result ≡ operand_held self }
     {
         match self {
             WrittenOperand::Register(_) => true,
-            WrittenOperand::Literal(z) => held(z),
+            WrittenOperand::Literal(z) => i32::try_from(z).is_ok(),
         }
     }
 
@@ -117,7 +110,7 @@ impl WrittenOperand {
     {
         match self {
             WrittenOperand::Register(name) => Operand::Register(name.raw()),
-            WrittenOperand::Literal(z) => Operand::Literal(if held(z) { z as i32 } else { 0 }),
+            WrittenOperand::Literal(z) => Operand::Literal(i32::try_from(z).unwrap_or(0)),
         }
     }
 }

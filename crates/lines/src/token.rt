@@ -1,6 +1,5 @@
 // The items of a line as they are written.
-ghost use Rattle.std.specs.Prelude.{◌≡◌, ℕ, List, IfSome, MatchOption};
-ghost use Rattle.lines.specs.declared.written.Token.{Token};
+ghost use Rattle.lines.specs.Begins.{Begins};
 ghost use Rattle.lines.specs.Tokens.{TokenAt};
 
 use crate::literal::literal;
@@ -11,20 +10,11 @@ use crate::written::Token;
 
 // The item at the front of `text`, and what follows it.
 pub(crate) fn token<'a>(text: &'a [u8]) -> Option<(Token, &'a [u8])>
-    ensures sound { IfSome result (λ x. TokenAt text.now x.0 x.1.now) }
-    ensures complete { (k : Token) (rest : List ℕ) → TokenAt text.now k rest → MatchOption result ⊥ (λ x. (x.0 ≡ k) × (x.1.now ≡ rest)) }
+    ensures { Begins (TokenAt text.now) result }
 {
-    if let Some((m, rest)) = mark(text) {
-        return Some((Token::Mark(m), rest));
-    }
-    if let Some((x, rest)) = name(text) {
-        return Some((Token::Register(x), rest));
-    }
-    if let Some((z, rest)) = literal(text) {
-        return Some((Token::Literal(z), rest));
-    }
-    let Some((o, rest)) = opcode(text) else {
-        return None;
-    };
-    Some((Token::Opcode(o), rest))
+    mark(text)
+        .map(|(m, rest)| (Token::Mark(m), rest))
+        .or_else(|| name(text).map(|(x, rest)| (Token::Register(x), rest)))
+        .or_else(|| literal(text).map(|(z, rest)| (Token::Literal(z), rest)))
+        .or_else(|| opcode(text).map(|(o, rest)| (Token::Opcode(o), rest)))
 }

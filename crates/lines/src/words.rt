@@ -1,5 +1,6 @@
 // Words at the front of a text.
-ghost use Rattle.std.specs.Prelude.{◌≡◌, ℕ, List, ◌++◌, IfSome, MatchOption, ◌≢◌};
+ghost use Rattle.std.specs.Prelude.{◌≡◌, ℕ, List, ◌++◌, MatchOption, ◌≢◌};
+ghost use Rattle.lines.specs.Begins.{Begins};
 ghost use Rattle.lines.specs.Fields.{Field};
 
 use crate::number::number;
@@ -13,11 +14,7 @@ pub(crate) fn after_word<'a>(text: &'a [u8], word: &[u8]) -> Option<&'a [u8]>
 
 // The number that follows `word` at the front of `text`, and what follows it.
 pub(crate) fn field<'a>(text: &'a [u8], word: &[u8]) -> Option<(u64, &'a [u8])>
-    ensures sound { IfSome result (λ x. Field word.now text.now x.0 x.1.now) }
-    ensures complete { (n : ℕ) (rest : List ℕ) → Field word.now text.now n rest → MatchOption result ⊥ (λ x. (x.0 ≡ n) × (x.1.now ≡ rest)) }
+    ensures { Begins (Field word.now text.now) result }
 {
-    let Some(after) = after_word(text, word) else {
-        return None;
-    };
-    number(after)
+    number(after_word(text, word)?)
 }

@@ -17,9 +17,9 @@ returns-in-Some-field c =
       complete = λ x rest h. rotating _ _ _ x rest f h;
     }
 
-pub returns-in-Some-field-3 : goal.returns-in-Some-field-3
-returns-in-Some-field-3 c =
-    let f = c.in-Some-field-3.ensures.sound in
+pub returns : goal.returns
+returns c =
+    let f = c.in_ok-n.ensures.sound in
     record {
       sound = record { short = f.small; whole = f.whole; ends = f.ends };
       complete = λ x rest h. rotating_predicate _ _ _ x rest f h;

@@ -1,21 +1,21 @@
-use Rattle.std.proofs.Common.{◌≡◌, ℕ, List, take, sym, subst, arith}
+use Rattle.std.proofs.Common.{◌≡◌, take, sym, ◌∙◌, subst, rules, tests}
+use Rattle.std.proofs.lemmas.Iterator.{YieldsList-from_slice}
+use Rattle.std.proofs.lemmas.Iterator.Consumers.{count_from_yields_List}
+use Rattle.std.proofs.lemmas.Iterator.Search.{YieldsList-from_take_while}
+use Rattle.std.proofs.lemmas.List.Folds.{length-prefix_len}
+use Rattle.std.specs.Char.{is_ascii_digit}
 use Rattle.std.specs.Str.Parse.{AllDigits}
 use Rattle.lines.specs.Numbers.{run}
-use Rattle.lines.proofs.Runs.{run_more, run_stop, run_none, front}
+use Rattle.lines.proofs.Runs.{run_is, front}
 use Rattle.lines.proofs.number.digit_count.Goals as goal
 
-pub loop-n-preserved : goal.loop-n-preserved
-loop-n-preserved c = (omega arith, omega (arith, run_more c.args.text.now c.loop-n.n (omega arith) (sym c.if-is_ascii_digit.ensures.value)))
-
-all : (t : List ℕ) (n : ℕ) → n ≡ run t → AllDigits 10 (take n t)
-all t n e = subst (λ m. AllDigits 10 (take m t)) (sym e) (front t).all
-
-pub returns-else-is_ascii_digit : goal.returns-else-is_ascii_digit
-returns-else-is_ascii_digit c =
-    let e : c.loop-n.n ≡ run c.args.text.now = omega (arith, run_stop c.args.text.now c.loop-n.n (omega arith) (sym c.if-is_ascii_digit.ensures.value)) in
-    record { count = e; within = omega arith; all = all _ _ e }
-
-pub returns-after-loop-n : goal.returns-after-loop-n
-returns-after-loop-n c =
-    let e : c.loop-n.n ≡ run c.args.text.now = omega (arith, run_none c.args.text.now c.loop-n.n (omega arith)) in
-    record { count = e; within = omega arith; all = all _ _ e }
+pub returns : goal.returns
+returns c =
+    let t = c.args.text.now in
+    let count : c.count.result ≡ run t =
+    count_from_yields_List c.take_while.result _ c.count.ensures.ran
+    (YieldsList-from_take_while _ is_ascii_digit (YieldsList-from_slice t cc) c.take_while.ensures.closure c.take_while.ensures.done (λ x b q k. search (rules, tests)))
+    ∙ length-prefix_len is_ascii_digit t
+    ∙ run_is t
+    in
+    record { count = count; within = search rules; all = subst (λ m. AllDigits 10 (take m t)) (sym count) (front t).all }

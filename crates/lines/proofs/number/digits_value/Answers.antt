@@ -1,7 +1,5 @@
-use Rattle.std.proofs.Common.{ap, ◌∙◌, arith}
-use Rattle.std.specs.Str.Parse.{digits_value}
+use Rattle.std.proofs.Common.{arith}
 use Rattle.std.proofs.lemmas.Int.Digits.{digits_value_more}
-use Rattle.std.proofs.lemmas.List.{take_all}
 use Rattle.std.proofs.lemmas.Str.Parse.{digit_at}
 use Rattle.lines.proofs.Runs.{small_front, value_of_digit}
 use Rattle.lines.proofs.number.digits_value.Goals as goal
@@ -24,6 +22,3 @@ loop-b-preserved c =
     let more = digits_value_more 10 c.args.digits.now c.loop-b.b-index (omega arith) in
     let digit = value_of_digit _ (digit_at c.args.digits.now c.loop-b.b-index c.requires.1 (omega arith)) in
     omega (arith, more, digit, c.loop-b.invariant, c.from.ensures)
-
-pub returns : goal.returns
-returns c = c.loop-b.invariant ∙ ap (digits_value 10) (take_all c.loop-b.b-index c.args.digits.now (omega arith))

@@ -1,66 +1,52 @@
 use Rattle.std.proofs.Common.{codes, sym, ◌∙◌}
 use Rattle.std.proofs.lemmas.List.{append_cancel_left}
+use Rattle.lines.proofs.Founds.{none_begins}
 use Rattle.lines.proofs.OpcodeTexts.{compared, compare_at, as_compare}
 use Rattle.lines.proofs.opcode.compare.Goals as goal
 
-pub returns-in_default : goal.returns-in_default
-returns-in_default c = record {
-  sound = tt;
-  complete = λ o rest h. let i = compared _ o rest h in c.in_default.ensures.complete i.when _ i.whole;
-}
+pub returns-in_err-when : goal.returns-in_err-when
+returns-in_err-when c = none_begins _ _ c.from_residual.ensures (λ o rest h. let i = compared _ o rest h in c.in_err-when.ensures.complete i.when _ i.whole)
 
-pub returns-in_default-action : goal.returns-in_default-action
-returns-in_default-action c = record {
-  sound = tt;
-  complete = λ o rest h.
-      let i = compared _ o rest h in
-      let e = c.in-Some.ensures.complete i.when _ i.whole in
-      c.in_default-action.ensures.complete i.first _ e.1;
-}
+pub returns-in_err-first : goal.returns-in_err-first
+returns-in_err-first c = none_begins _ _ c.from_residual-in_err-first.ensures (λ o rest h.
+    let i = compared _ o rest h in
+    let e = c.in_ok-when.ensures.complete i.when _ i.whole in
+    c.in_err-first.ensures.complete i.first _ e.1)
 
-pub returns-in_default-after_word : goal.returns-in_default-after_word
-returns-in_default-after_word c = record {
-  sound = tt;
-  complete = λ o rest h.
-      let i = compared _ o rest h in
-      let e = c.in-Some.ensures.complete i.when _ i.whole in
-      let f = c.in-Some-action.ensures.complete i.first _ e.1 in
-      c.in_default-after_word.ensures _ f.1;
-}
+pub returns-in_err-after_word : goal.returns-in_err-after_word
+returns-in_err-after_word c = none_begins _ _ c.from_residual-in_err-after_word.ensures (λ o rest h.
+    let i = compared _ o rest h in
+    let e = c.in_ok-when.ensures.complete i.when _ i.whole in
+    let f = c.in_ok-first.ensures.complete i.first _ e.1 in
+    c.in_err-after_word.ensures _ f.1)
 
-pub returns-in_default-action-2 : goal.returns-in_default-action-2
-returns-in_default-action-2 c = record {
-  sound = tt;
-  complete = λ o rest h.
-      let i = compared _ o rest h in
-      let e = c.in-Some.ensures.complete i.when _ i.whole in
-      let f = c.in-Some-action.ensures.complete i.first _ e.1 in
-      let g = append_cancel_left (codes ".") _ _ (sym c.in-Some-after_word.ensures ∙ f.1) in
-      c.in_default-action-2.ensures.complete i.second _ g;
-}
+pub returns-in_err-second : goal.returns-in_err-second
+returns-in_err-second c = none_begins _ _ c.from_residual-in_err-second.ensures (λ o rest h.
+    let i = compared _ o rest h in
+    let e = c.in_ok-when.ensures.complete i.when _ i.whole in
+    let f = c.in_ok-first.ensures.complete i.first _ e.1 in
+    let g = append_cancel_left (codes ".") _ _ (sym c.in_ok-after_word.ensures ∙ f.1) in
+    c.in_err-second.ensures.complete i.second _ g)
 
-pub returns-in_default-after_word-2 : goal.returns-in_default-after_word-2
-returns-in_default-after_word-2 c = record {
-  sound = tt;
-  complete = λ o rest h.
-      let i = compared _ o rest h in
-      let e = c.in-Some.ensures.complete i.when _ i.whole in
-      let f = c.in-Some-action.ensures.complete i.first _ e.1 in
-      let g = append_cancel_left (codes ".") _ _ (sym c.in-Some-after_word.ensures ∙ f.1) in
-      let k = c.in-Some-action-2.ensures.complete i.second _ g in
-      c.in_default-after_word-2.ensures i.ends.0 (k.1 ∙ i.ends.1);
-}
+pub returns-in_err-after_word-2 : goal.returns-in_err-after_word-2
+returns-in_err-after_word-2 c = none_begins _ _ c.from_residual-in_err-after_word-2.ensures (λ o rest h.
+    let i = compared _ o rest h in
+    let e = c.in_ok-when.ensures.complete i.when _ i.whole in
+    let f = c.in_ok-first.ensures.complete i.first _ e.1 in
+    let g = append_cancel_left (codes ".") _ _ (sym c.in_ok-after_word.ensures ∙ f.1) in
+    let k = c.in_ok-second.ensures.complete i.second _ g in
+    c.in_err-after_word-2.ensures i.ends.0 (k.1 ∙ i.ends.1))
 
 pub returns : goal.returns
 returns c = record {
   sound =
-      compare_at c.args.text.now _ _ _ c.in-Some.actions.now c.in-Some-action.point.now c.in-Some-after_word.behind.now c.in-Some-action-2.rest.now c.in-Some.ensures.sound
-      c.in-Some-action.ensures.sound c.in-Some-after_word.ensures c.in-Some-action-2.ensures.sound (c.in-Some-after_word-2.field-0.now, c.in-Some-after_word-2.ensures);
+      compare_at c.args.text.now _ _ _ c.in_ok-when.actions.now c.in_ok-first.point.now c.in_ok-after_word.field-0.now c.in_ok-second.rest.now c.in_ok-when.ensures.sound
+      c.in_ok-first.ensures.sound c.in_ok-after_word.ensures c.in_ok-second.ensures.sound (c.in_ok-after_word-2.field-0.now, c.in_ok-after_word-2.ensures);
   complete = λ o rest h.
       let i = compared _ o rest h in
-      let e = c.in-Some.ensures.complete i.when _ i.whole in
-      let f = c.in-Some-action.ensures.complete i.first _ e.1 in
-      let g = append_cancel_left (codes ".") _ _ (sym c.in-Some-after_word.ensures ∙ f.1) in
-      let k = c.in-Some-action-2.ensures.complete i.second _ g in
+      let e = c.in_ok-when.ensures.complete i.when _ i.whole in
+      let f = c.in_ok-first.ensures.complete i.first _ e.1 in
+      let g = append_cancel_left (codes ".") _ _ (sym c.in_ok-after_word.ensures ∙ f.1) in
+      let k = c.in_ok-second.ensures.complete i.second _ g in
       (as_compare _ _ _ _ _ _ o e.0 f.0 k.0 i.is, k.1);
 }

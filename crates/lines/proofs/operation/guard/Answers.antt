@@ -1,16 +1,13 @@
+use Rattle.std.proofs.Common.{◌≡◌, [], true, false, rules}
 use Rattle.std.proofs.lemmas.Bool.{false≢true}
-use Rattle.lines.proofs.Sayings.{none_some}
-use Rattle.lines.proofs.Operands.{guard_read}
+use Rattle.lines.specs.Items.{left}
+use Rattle.lines.specs.Written.{always}
+use Rattle.lines.proofs.Operands.{guard_last}
 use Rattle.lines.proofs.operation.guard.Goals as goal
+use Rattle.lines.proofs.operation.guard.Goals.{then-is_done-2, else-is_done-2}
 
-pub returns-in_default : goal.returns-in_default
-returns-in_default c = record {
-  sound = tt;
-  complete = λ g short e. absurd (none_some g (guard_read _ _ _ _ (λ z. false≢true (c.if-is_done.ensures.1 z)) c.if-not-marks.ensures c.in_default.ensures g short e).0);
-}
-
-pub returns-then-not-is_done : goal.returns-then-not-is_done
-returns-then-not-is_done c = record {
-  sound = tt;
-  complete = λ g short e. absurd (false≢true (c.if-not-is_done.ensures.1 (guard_read _ _ _ _ (λ z. false≢true (c.if-is_done.ensures.1 z)) c.if-not-marks.ensures c.in-Some.ensures g short e).1));
-}
+pub returns : goal.returns
+returns c =
+    let is : c.if-is_done-2.then_some ≡ true → (left c.expect.new.reader ≡ []) × (always c.in_ok-name.name ≡ false) = elim c.if-is_done-2.branch [ then-is_done-2 w ↦ search rules | else-is_done-2 w ↦ search rules ] in
+    let back : left c.expect.new.reader ≡ [] → always c.in_ok-name.name ≡ false → c.if-is_done-2.then_some ≡ true = elim c.if-is_done-2.branch [ then-is_done-2 w ↦ search rules | else-is_done-2 w ↦ search rules ] in
+    rw c.then_some.ensures (guard_last _ _ _ c.in_ok-name.name c.if-is_done-2.then_some (λ z. false≢true (c.if-is_done.ensures.1 z)) c.in_ok-marks.ensures c.in_ok-name.ensures is back)

@@ -1,30 +1,24 @@
-use Rattle.std.proofs.Common.{◌≡◌, ℤ, pos, negsuc, sym, subst, arith, w64, SFits, to_z, of_z}
-use Rattle.std.proofs.lemmas.Int.{to_z-of_z}
+use Rattle.std.proofs.Common.{◌≡◌, MatchOption, Some, rules, refl, arith}
 use Rattle.lines.specs.declared.written.Token.TheVariants as token
-use Rattle.lines.specs.Numbers.{ShortLiteral}
-use Rattle.lines.specs.Tokens.{TokenAt}
-use Rattle.lines.proofs.Leads.{only_register, only_literal, only_opcode, only_mark}
+use Rattle.lines.proofs.Leads.{Tried, Partly, mark_of, register_of, literal_of, opcode_of, tried, tried_next, turn, all_kinds}
 use Rattle.lines.proofs.token.token.Goals as goal
 
-pub returns-in-Some : goal.returns-in-Some
-returns-in-Some c = let f = c.in-Some.ensures in record { sound = f.sound; complete = λ k rest h. only_mark _ _ _ k rest f.sound f.complete h }
+marks : (c : goal.After-or_else-3) → Tried token.Mark c.args.text.now c.map.result
+marks c = (c.mark.result, c.mark.ensures, search rules)
 
-pub returns-in-Some-name : goal.returns-in-Some-name
-returns-in-Some-name c = let f = c.in-Some-name.ensures in record { sound = f.sound; complete = λ k rest h. only_register _ _ _ k rest f.sound f.complete h }
+names : (c : goal.After-or_else-3) → MatchOption c.map.result (Tried token.Register c.args.text.now c.or_else.result) (λ x. c.or_else.result ≡ Some x)
+names c = turn _ _ _ _ _ (λ e. search rules) c.or_else.ensures
 
-fits : (z : ℤ) → ShortLiteral z → SFits w64 z
-fits (pos n) h = omega (arith, h)
-fits (negsuc n) h = omega (arith, h)
+literals : (c : goal.After-or_else-3) → MatchOption c.or_else.result (Tried token.Literal c.args.text.now c.or_else-2.result) (λ x. c.or_else-2.result ≡ Some x)
+literals c = turn _ _ _ _ _ (λ e. search rules) c.or_else-2.ensures
 
-pub returns-in-Some-literal : goal.returns-in-Some-literal
-returns-in-Some-literal c =
-    let f = c.in-Some-literal.ensures in
-    let z = c.in-Some-literal.z in
-    let back : z ≡ to_z w64 (of_z w64 z) = sym (to_z-of_z w64 z (fits z f.sound.short)) in
-    record {
-      sound = subst (λ y. TokenAt c.args.text.now (token.Literal y) c.in-Some-literal.rest.now) back f.sound;
-      complete = λ k rest h. subst (λ y. (token.Literal y ≡ k) × (c.in-Some-literal.rest.now ≡ rest)) back (only_literal _ z _ k rest f.sound f.complete h);
-    }
+opcodes : (c : goal.After-or_else-3) → MatchOption c.or_else-2.result (Tried token.Opcode c.args.text.now c.or_else-3.result) (λ x. c.or_else-3.result ≡ Some x)
+opcodes c = turn _ _ _ _ _ (λ e. search rules) c.or_else-3.ensures
 
 pub returns : goal.returns
-returns c = let f = c.in-Some-opcode.ensures in record { sound = f.sound; complete = λ k rest h. only_opcode _ _ _ k rest f.sound f.complete h }
+returns c =
+    let t = c.args.text.now in
+    let a : Partly 1 t c.map.result = tried token.Mark 0 (λ _. refl) mark_of t _ (λ k rest h. omega arith) (marks c) in
+    let b : Partly 2 t c.or_else.result = tried_next token.Register 1 (λ _. refl) register_of t _ _ a (names c) in
+    let d : Partly 3 t c.or_else-2.result = tried_next token.Literal 2 (λ _. refl) literal_of t _ _ b (literals c) in
+    all_kinds t _ (tried_next token.Opcode 3 (λ _. refl) opcode_of t _ _ d (opcodes c))
