@@ -27,6 +27,14 @@ abbrev pub with_bounds : Described → Result Bounds Refusal → Result Describe
 with_bounds d (Ok b) = Ok (record { slots = d.slots; bounds = d.bounds ++ b ∷ [] })
 with_bounds d (Err e) = Err e
 
+abbrev pub or_unreadable : Option Slot → Result Slot Refusal
+or_unreadable None = Err Unreadable
+or_unreadable (Some s) = Ok s
+
+-- a slot that comes behind k others
+abbrev pub slot_numbered : ℕ → ℕ → Classes → Result Slot Refusal
+slot_numbered k n c = cond (n == k) (cond (nat_lt n 8) (or_unreadable (slot_taking c.integer c.memory c.compare)) (Err NoSuch)) (Err Unreadable)
+
 -- slots come first, in the order of their numbers
 abbrev pub slot_line : Described → ℕ → Classes → Result Described Refusal
 slot_line d n c =

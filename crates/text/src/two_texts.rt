@@ -1,12 +1,13 @@
 // Both texts loaded.
-ghost use Rattle.std.specs.Prelude.{◌≡◌, Err};
-ghost use Rattle.text.specs.declared.fault.Fault.TheVariants as fault;
-ghost use Rattle.text.specs.Answered.{Answered, ProgramAnswered};
+ghost use Rattle.std.specs.Prelude.{◌≡◌, Err, MatchResult};
+ghost use Rattle.text.specs.Loads.{Describes};
+ghost use Rattle.text.specs.Answered.{Answered, NotDescribed};
 
-use crate::fault::{Answer, Fault};
+use crate::fault::{Fault, RefusedText};
 use crate::loading::Loading;
+use crate::part::Part;
 use crate::stage::Stage;
-use crate::taking::{described, programmed};
+use crate::taking::take_lines;
 use blocks::{Blocks, Description};
 use operations::Refusal;
 use std::alloc::Global;
@@ -14,58 +15,33 @@ use std::alloc::Global;
 // How many bytes a text may have.
 pub const LIMIT: usize = 65_535;
 
-fn load_program<'a>(heap: Global, description: Description, program: &'a [u8]) -> Answer<'a>
-    ensures { ProgramAnswered description program.now result.loaded result.line.now }
+// The machine that the text describes.
+fn described<'a>(text: &'a [u8]) -> Result<Description, RefusedText<'a>>
+    ensures { MatchResult result (λ x. Describes text.now x) (λ r. NotDescribed text.now r.refusal r.line.now) }
 {
-    let Ok(blocks) = Blocks::new(heap, description) else {
-        return Answer {
-            loaded: Err(Fault::Memory),
-            line: &program[0..0],
-        };
-    };
+    let mut part = Part::Nothing;
+    take_lines(&mut part, text)?;
+    part.finished().ok_or(RefusedText {
+        refusal: Refusal::Unreadable,
+        line: &text[..0],
+    })
+}
+
+// The blocks of the two texts. A text that is too long is refused first; then the description is read, and then the program.
+pub fn load<'a>(heap: Global, description: &'a [u8], program: &'a [u8]) -> Result<Blocks, Fault<'a>>
+    ensures { Answered description.now program.now result }
+{
+    if description.len() > LIMIT || program.len() > LIMIT {
+        return Err(Fault::Refused(RefusedText {
+            refusal: Refusal::BeyondLimit,
+            line: &description[..0],
+        }));
+    }
+    let machine = described(description)?;
     let mut loading = Loading {
-        blocks,
+        blocks: Blocks::new(heap, machine)?,
         stage: Stage::Start,
     };
-    let (read, line) = programmed(&mut loading, program);
-    match read {
-        Ok(()) => Answer {
-            loaded: Ok(loading.blocks),
-            line: &program[0..0],
-        },
-        Err(refusal) => Answer {
-            loaded: Err(Fault::Refused(refusal)),
-            line,
-        },
-    }
-}
-
-fn refused<'a>(refusal: Refusal, line: &'a [u8]) -> Answer<'a>
-    ensures loaded { result.loaded ≡ Err (fault.Refused refusal) }
-    ensures line { result.line.now ≡ line.now }
-{
-    Answer {
-        loaded: Err(Fault::Refused(refusal)),
-        line,
-    }
-}
-
-// The blocks of the two texts. A text that is too long is refused first, the description's before the program's; then the description is read, and then the program.
-pub fn load<'a>(heap: Global, description: &'a [u8], program: &'a [u8]) -> Answer<'a>
-    ensures { Answered description.now program.now result.loaded result.line.now }
-{
-    if description.len() > LIMIT {
-        return refused(Refusal::BeyondLimit, &description[0..0]);
-    }
-    if program.len() > LIMIT {
-        return refused(Refusal::BeyondLimit, &program[0..0]);
-    }
-    let (read, line) = described(description);
-    match read {
-        Ok(part) => match part.finished() {
-            Some(machine) => load_program(heap, machine, program),
-            None => refused(Refusal::Unreadable, &description[0..0]),
-        },
-        Err(refusal) => refused(refusal, line),
-    }
+    take_lines(&mut loading, program)?;
+    Ok(loading.blocks)
 }
