@@ -8,13 +8,9 @@ use Rattle.std.proofs.lemmas.Str.Parse.{digit_from_value}
 use Rattle.std.proofs.lemmas.Bool.{and_parts}
 use Rattle.std.proofs.lemmas.Bool.Decides.{nat_tests}
 use Rattle.opcodes.specs.declared.integer.BinaryOpcode.{BinaryOpcode}
-use Rattle.opcodes.specs.declared.integer.BinaryOpcode.TheVariants.{Add, Sub, And, Or, Xor, Shl, Shr, Shra, Min, Max, Minl, Maxl}
 use Rattle.opcodes.specs.declared.integer.UnaryOpcode.{UnaryOpcode}
-use Rattle.opcodes.specs.declared.integer.UnaryOpcode.TheVariants.{Abs, Move}
 use Rattle.opcodes.specs.declared.compare.Condition.{Condition}
-use Rattle.opcodes.specs.declared.compare.Condition.TheVariants.{Never, Equal, Less, LessEqual, LogicalLess, LogicalLessEqual, Always, NotEqual, GreaterEqual, Greater, LogicalGreaterEqual, LogicalGreater}
 use Rattle.opcodes.specs.declared.compare.Action.{Action}
-use Rattle.opcodes.specs.declared.compare.Action.TheVariants.{Un, Uc, Cn, Cc, On, Oc, An, Ac}
 use Rattle.opcodes.specs.Texts.{binary_text, unary_text, condition_text, action_text}
 use Rattle.lines.specs.declared.written.WrittenGeneral.{WrittenGeneral}
 use Rattle.lines.specs.declared.written.WrittenGeneral.TheVariants as general_name
@@ -78,46 +74,16 @@ plain_signed (pos n) h = plain_decimal n h
 plain_signed (negsuc n) h = plain_decimal (suc n) h
 
 plain_binary : (o : BinaryOpcode) → plain (binary_text o) ≡ true
-plain_binary Add = refl
-plain_binary Sub = refl
-plain_binary And = refl
-plain_binary Or = refl
-plain_binary Xor = refl
-plain_binary Shl = refl
-plain_binary Shr = refl
-plain_binary Shra = refl
-plain_binary Min = refl
-plain_binary Max = refl
-plain_binary Minl = refl
-plain_binary Maxl = refl
+plain_binary o = grind arith
 
 plain_unary : (o : UnaryOpcode) → plain (unary_text o) ≡ true
-plain_unary Abs = refl
-plain_unary Move = refl
+plain_unary o = grind arith
 
 plain_condition : (c : Condition) → plain (condition_text c) ≡ true
-plain_condition Never = refl
-plain_condition Equal = refl
-plain_condition Less = refl
-plain_condition LessEqual = refl
-plain_condition LogicalLess = refl
-plain_condition LogicalLessEqual = refl
-plain_condition Always = refl
-plain_condition NotEqual = refl
-plain_condition GreaterEqual = refl
-plain_condition Greater = refl
-plain_condition LogicalGreaterEqual = refl
-plain_condition LogicalGreater = refl
+plain_condition o = grind arith
 
 plain_action : (a : Action) → plain (action_text a) ≡ true
-plain_action Un = refl
-plain_action Uc = refl
-plain_action Cn = refl
-plain_action Cc = refl
-plain_action On = refl
-plain_action Oc = refl
-plain_action An = refl
-plain_action Ac = refl
+plain_action o = grind arith
 
 plain_opcode : (o : Opcode) → plain (opcode_text o) ≡ true
 plain_opcode (opcode.Binary o) = plain_append (binary_text o) _ (plain_binary o) refl
