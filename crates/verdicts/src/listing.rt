@@ -39,6 +39,7 @@ pub fn verdicts(heap: Global, blocks: &Blocks) -> Result<Vec<BlockVerdict>, Allo
     ensures { IfOk result (λ v. Told (state_of blocks.now) v.items) }
 {
     let mut all = Vec::with_capacity(heap, usize::from(BLOCKS))?;
+    // What `check` answers is told by a relation, and of that `filter_map` tells no order: so this is a loop.
     for block in 0..BLOCKS {
         if !is_filled(blocks, block) {
             continue;
