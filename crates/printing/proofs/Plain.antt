@@ -1,11 +1,14 @@
 -- No line has a newline in it, so the lines of a text are found again. Assumes nothing.
-use Rattle.std.proofs.Common.{◌≡◌, ℕ, suc, Bool, true, false, cond, not, ◌&&◌, eqb, List, [], ◌∷◌, ◌++◌, map, ℤ, pos, negsuc, Some, None, codes, decimal, Option, refl, ap, ◌∙◌, ap₂, append_assoc, arith}
+use Rattle.std.proofs.Common.{◌≡◌, ℕ, suc, Bool, true, false, cond, not, ◌&&◌, eqb, List, [], ◌∷◌, ◌++◌, map, ℤ, pos, negsuc, Some, None, codes, decimal, Option, sym, refl, ap, ◌∙◌, ap₂, append_assoc, arith}
 use Rattle.std.specs.Str.Parse.{AllDigits}
-use Rattle.std.specs.List.{AllByRecursion}
+use Rattle.std.specs.List.{AllByRecursion, list_all}
+use Rattle.std.proofs.lemmas.List.Folds.{list_all-append}
+use Rattle.std.proofs.lemmas.List.Sums.{AllPass-from_list_all}
+use Rattle.text.proofs.Cuts.{line_before}
 use Rattle.std.specs.Fmt.{signed_decimal}
 use Rattle.std.proofs.lemmas.Fmt.{decimal_is_IsNumeral}
 use Rattle.std.proofs.lemmas.Str.Parse.{digit_from_value}
-use Rattle.std.proofs.lemmas.Bool.{and_parts}
+use Rattle.std.proofs.lemmas.Bool.{false≢true}
 use Rattle.std.proofs.lemmas.Bool.Decides.{nat_tests}
 use Rattle.opcodes.specs.declared.integer.BinaryOpcode.{BinaryOpcode}
 use Rattle.opcodes.specs.declared.integer.UnaryOpcode.{UnaryOpcode}
@@ -35,29 +38,18 @@ use Rattle.lines.specs.declared.written.ProgramLine.TheVariants as line
 use Rattle.lines.specs.Numbers.{Short, ShortLiteral}
 use Rattle.lines.specs.Written.{general_name_text, predicate_name_text, name_text, opcode_text, operand_text, sources_text, destinations_text, guard_text, written_text, general_number, predicate_number, ShortName, ShortOperand, ShortSources, ShortDestinations, ShortOperation}
 use Rattle.lines.specs.Lines.{position_text, exit_text, program_line_text, ShortPosition, ShortExit, ShortProgram}
-use Rattle.text.specs.Texts.{longer, lines_of}
+use Rattle.text.specs.Texts.{lines_of}
 use Rattle.printing.specs.Sets.{lines_text}
 
 abbrev pub plain : List ℕ → Bool
-plain [] = true
-plain (b ∷ bs) = not (eqb b 10) && plain bs
+plain bs = list_all (λ b. not (eqb b 10)) bs
 
 -- a line that ends is the first line
-pub line_first : (l rest : List ℕ) → plain l ≡ true → lines_of (l ++ 10 ∷ rest) ≡ l ∷ lines_of rest
-line_first [] rest h = refl
-line_first (b ∷ bs) rest h =
-    let p = and_parts (not (eqb b 10)) (plain bs) h in
-    by (eqb b 10) refl p.0 (line_first bs rest p.1)
-  where
-    by : (t : Bool) → eqb b 10 ≡ t → not t ≡ true → lines_of (bs ++ 10 ∷ rest) ≡ bs ∷ lines_of rest → cond t ([] ∷ lines_of (bs ++ 10 ∷ rest)) (longer b (lines_of (bs ++ 10 ∷ rest))) ≡ (b ∷ bs) ∷ lines_of rest
-    by true e n ih = let z : ◌≡◌ {A = ℕ} 0 1 = cc in absurd (omega arith)
-    by false e n ih = ap (longer b) ih
+line_first : (l rest : List ℕ) → plain l ≡ true → lines_of (l ++ 10 ∷ rest) ≡ l ∷ lines_of rest
+line_first l rest h = line_before l rest (λ k lt e. false≢true (ap (λ b. not (eqb b 10)) (sym e) ∙ AllPass-from_list_all (λ b. not (eqb b 10)) l h k 0 lt))
 
-pub plain_append : (a b : List ℕ) → plain a ≡ true → plain b ≡ true → plain (a ++ b) ≡ true
-plain_append [] b p q = q
-plain_append (x ∷ a) b p q =
-    let h = and_parts (not (eqb x 10)) (plain a) p in
-    ap₂ (λ s t. s && t) h.0 (plain_append a b h.1 q)
+plain_append : (a b : List ℕ) → plain a ≡ true → plain b ≡ true → plain (a ++ b) ≡ true
+plain_append a b p q = list_all-append (λ c. not (eqb c 10)) a b ∙ ap₂ (λ s t. s && t) p q
 
 plain_digits : (ds : List ℕ) → AllDigits 10 ds → plain ds ≡ true
 plain_digits [] d = refl
@@ -141,7 +133,7 @@ plain_exit (Goto t) h = plain_decimal t h
 plain_exit (If p t) h = plain_append (predicate_name_text p) _ (plain_predicate p h.0) (plain_decimal t h.1)
 plain_exit (Loop t) h = plain_decimal t h
 
-pub plain_line : (w : ProgramLine) → ShortProgram w → plain (program_line_text w) ≡ true
+plain_line : (w : ProgramLine) → ShortProgram w → plain (program_line_text w) ≡ true
 plain_line (line.Block n) h = plain_decimal n h
 plain_line (line.Operation p w) h = plain_position p (written_text w) h.0 (plain_written w h.1)
 plain_line (line.Exit x) h = plain_exit x h
