@@ -1,18 +1,22 @@
 -- What is answered to the two texts. Assumes nothing.
-use Rattle.std.proofs.Common.{◌≡◌, ℕ, List, [], Some, None, Ok, Option, Result, sym, subst, MatchOption, MatchResult}
+use Rattle.std.proofs.Common.{◌≡◌, ℕ, List, [], Some, None, Ok, Err, Option, Result, sym, subst, MatchOption, MatchResult}
 use Rattle.std.specs.Option.{ok_or}
+use Rattle.std.specs.Result.{IsErrAnd}
+use Rattle.std.proofs.lemmas.Result.{err_from_is_err_and}
 use Rattle.operations.specs.declared.refusal.Refusal.{Refusal}
 use Rattle.operations.specs.declared.refusal.Refusal.TheVariants.{Unreadable}
+use Rattle.blocks.specs.declared.blocks.Blocks.{Blocks}
 use Rattle.blocks.specs.declared.description.Description.{Description}
 use Rattle.blocks.specs.Calls.{State, fresh}
 use Rattle.lines.specs.Lines.{IsDescriptionLine, IsProgramLine}
+use Rattle.text.specs.declared.fault.Fault.{Fault}
 use Rattle.text.specs.declared.fault.RefusedText.{RefusedText}
 use Rattle.text.specs.declared.stage.Stage.TheVariants.{Start}
 use Rattle.text.specs.Texts.{lines_of, Taken}
 use Rattle.text.specs.Describing.{Described, nothing, description_step, Complete, Incomplete}
 use Rattle.text.specs.Programs.{Reading, program_step}
 use Rattle.text.specs.Loads.{FitsText, Describes, Programs, Loaded, Refused, in_description, missing}
-use Rattle.text.specs.Answered.{NotDescribed, line_refused, line_missing}
+use Rattle.text.specs.Answered.{Answered, NotDescribed, line_refused, line_missing}
 use Rattle.text.proofs.Describes.{all_taken}
 
 -- where all lines of a description are taken in, it is finished or a line is missing
@@ -36,3 +40,7 @@ all_loaded d p x v t short few is e taken =
       described = subst (λ y. Describes d y) (sym h.0) is;
       read = subst (λ y. Programs p y t.state) (sym h.0) h.1;
     }
+
+-- what is answered at a `?`
+pub answered_err : (d p : List ℕ) (r : Result Blocks Fault) (f : Fault) → IsErrAnd r (λ g. g ≡ f) → Answered d p (Err f) → Answered d p r
+answered_err d p r f is h = let q = err_from_is_err_and r is in rw (q.1, q.2) h

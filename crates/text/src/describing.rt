@@ -13,7 +13,7 @@ use lines::{Classes, DescriptionLine, WrittenBounds, description_line};
 use operations::Refusal;
 
 // How many slots there may be.
-const SLOTS: u64 = 8;
+pub(crate) const SLOTS: u64 = 8;
 
 fn bound(written: u64) -> Result<u8, Refusal>
     ensures { MatchResult result (λ n. n ≡ written) (λ e. (e ≡ BeyondLimit) × (31 < written)) }

@@ -5,6 +5,7 @@ ghost use Rattle.lines.specs.Lines.{IsProgramLine};
 ghost use Rattle.text.specs.Programs.{Reading, above, slot_there, placed_at, operation_call, block_line, operation_line, exit_line, program_step};
 ghost use Rattle.text.specs.Views.{reading_of};
 
+use crate::describing::SLOTS;
 use crate::loading::Loading;
 use crate::stage::Stage;
 use crate::taking::ByLines;
@@ -14,9 +15,6 @@ use operations::Refusal;
 
 // How many cycles a block may have.
 const CYCLES: u64 = 1024;
-
-// How many slots a machine may have.
-const SLOTS: u64 = 8;
 
 // How many blocks there are.
 const BLOCKS: u64 = 16;
