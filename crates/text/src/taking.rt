@@ -31,6 +31,7 @@ pub(crate) trait ByLines {
         ensures { MatchResult result (λ _. step (view self.old) said ≡ Ok (view self.new)) (λ e. step (view self.old) said ≡ Err e) };
 }
 
+#[tactic(auto, using(crate::proofs::Turning::unread_stops))]
 fn take_line<R: ByLines>(reading: &mut R, line: &[u8]) -> Result<(), Refusal>
     ensures { MatchResult result (λ _. GoesOn R.Line R.step (R.view reading.old) line.now (R.view reading.new)) (λ e. Stops R.Line R.step (R.view reading.old) line.now e) }
 {
@@ -39,6 +40,7 @@ fn take_line<R: ByLines>(reading: &mut R, line: &[u8]) -> Result<(), Refusal>
 }
 
 // Takes in the lines of the text, or answers why one is refused.
+#[tactic(auto, using(crate::proofs::Turning::ends))]
 pub(crate) fn take_lines<'a, R: ByLines>(
     reading: &mut R,
     text: &'a [u8],

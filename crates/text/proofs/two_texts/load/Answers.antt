@@ -1,18 +1,8 @@
 use Rattle.text.specs.Views.{reading_of}
-use Rattle.text.specs.Loads.{long_description, long_program, in_program}
+use Rattle.text.specs.Loads.{in_program}
 use Rattle.text.proofs.Describes.{from_start}
 use Rattle.text.proofs.Loads.{answered_err, not_described, all_loaded}
 use Rattle.text.proofs.two_texts.load.Goals as goal
-
-pub returns-in_err-fits : goal.returns-in_err-fits
-returns-in_err-fits c =
-    let h = c.in_err-fits.ensures in
-    answered_err _ _ _ _ c.from_residual.ensures.1 (long_description h.0 h.1 h.2)
-
-pub returns-in_err-fits-2 : goal.returns-in_err-fits-2
-returns-in_err-fits-2 c =
-    let h = c.in_err-fits-2.ensures in
-    answered_err _ _ _ _ c.from_residual-in_err-fits-2.ensures.1 (long_program c.in_ok-fits.ensures h.0 h.1 h.2)
 
 pub returns-in_err-machine : goal.returns-in_err-machine
 returns-in_err-machine c =
