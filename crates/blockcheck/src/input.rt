@@ -21,6 +21,7 @@ pub(crate) fn read(rt: &HostRuntime) -> anyhow::Result<Option<Vec<u8>>> {
 // The texts before and behind the first line `program`. Without that line the input is refused, for its length where it is longer than a text may be.
 pub(crate) fn divided<'a>(input: &'a [u8]) -> Result<(&'a [u8], &'a [u8]), RefusedText<'a>> {
     let mut rest = input;
+    // An iterator over the lines would not tell where a line begins, so this is a loop.
     while let Some((line, behind)) = text::cut_line(rest) {
         if line == DIVIDER {
             return Ok((&input[..input.len() - rest.len()], behind));

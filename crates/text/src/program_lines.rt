@@ -82,6 +82,7 @@ impl Loading {
         if !self.stage.above(number) {
             return Err(Refusal::Unreadable);
         }
+        // With `try_from` the bound would still have to be tested.
         if number >= BLOCKS {
             return Err(Refusal::NoSuch);
         }

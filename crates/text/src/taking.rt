@@ -48,6 +48,7 @@ pub(crate) fn take_lines<'a, R: ByLines>(
     ensures { MatchResult result (λ _. Taken R.Line R.step (R.view reading.old) (lines_of text.now) (Ok (R.view reading.new))) (λ r. Taken R.Line R.step (R.view reading.old) (lines_of text.now) (Err (r.refusal, r.line.now))) }
 {
     let mut rest = text;
+    // Of what a closure changes a proof knows nothing after `try_for_each`, so this is a loop.
     while let Some((line, after)) = cut_line(rest) {
         take_line(reading, line).map_err(|refusal| RefusedText { refusal, line })?;
         rest = after;
