@@ -4,39 +4,36 @@
 mod input;
 
 use anyhow::anyhow;
-use input::Input;
+use blocks::Blocks;
 use operations::Refusal;
+use std::alloc::Global;
 use text::Fault;
 
 fn refuse(rt: &HostRuntime, refusal: Refusal) -> anyhow::Result<()> {
-    let number = refusal.number();
-    println!(rt; "refused {number}")?;
+    println!(rt; "refused {}", refusal.number())?;
     Ok(())
 }
 
-fn report(rt: &HostRuntime, description: &[u8], program: &[u8]) -> anyhow::Result<()> {
-    let blocks = match text::load(rt.alloc(), description, program).loaded {
-        Ok(blocks) => blocks,
-        Err(Fault::Refused(refusal)) => return refuse(rt, refusal),
-        Err(Fault::Memory) => return Err(anyhow!("out of memory")),
-    };
-    for verdict in verdicts::verdicts(rt.alloc(), &blocks)?.iter() {
+fn report(rt: &HostRuntime, blocks: &Blocks) -> anyhow::Result<()> {
+    for verdict in verdicts::verdicts(rt.alloc(), blocks)?.iter() {
         println!(rt; "{verdict}")?;
     }
     Ok(())
 }
 
+fn load<'a>(heap: Global, input: &'a [u8]) -> Result<Blocks, Fault<'a>> {
+    let (description, program) = input::divided(input)?;
+    text::load(heap, description, program)
+}
+
 fn run(rt: &HostRuntime) -> anyhow::Result<()> {
-    let Some(bytes) = input::read(rt)? else {
+    let Some(input) = input::read(rt)? else {
         return refuse(rt, Refusal::BeyondLimit);
     };
-    match input::divided(bytes.as_slice()) {
-        Input::Texts {
-            description,
-            program,
-        } => report(rt, description, program),
-        Input::Undivided => refuse(rt, Refusal::Unreadable),
-        Input::Long => refuse(rt, Refusal::BeyondLimit),
+    match load(rt.alloc(), input.as_slice()) {
+        Ok(blocks) => report(rt, &blocks),
+        Err(Fault::Refused(text)) => refuse(rt, text.refusal),
+        Err(Fault::Memory) => Err(anyhow!("out of memory")),
     }
 }
 

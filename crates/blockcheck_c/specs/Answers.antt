@@ -13,7 +13,7 @@ use Rattle.blockcheck_c.specs.Numbers.{numbers_of}
 -- the number of a refusal, or that memory has run out
 abbrev pub fault_number : Fault → ℕ
 fault_number fault.Memory = 255
-fault_number (fault.Refused e) = number_of e
+fault_number (fault.Refused r) = number_of r.refusal
 
 -- the numbers at the front of the room, the rest as it was
 abbrev pub at_front : List ℕ → List ℕ → List ℕ
@@ -24,6 +24,12 @@ pub record Verdicts (description program : List ℕ) (vs : List BlockVerdict) : 
   pub state : State
   pub loaded : Loaded description program state
   pub told : Told state vs
+
+-- the numbers of the verdicts on the blocks of the two texts
+pub record Numbered (description program ns : List ℕ) : Type 0 where
+  pub verdicts : List BlockVerdict
+  pub verdicts_of : Verdicts description program verdicts
+  pub same : ns ≡ numbers_of verdicts
 
 pub data Answers (description program room after : List ℕ) (r : ℕ) : Type 0 where
   told : (vs : List BlockVerdict) → Verdicts description program vs → length (numbers_of vs) ≤ length room → r ≡ 0 → after ≡ at_front (numbers_of vs) room → Answers description program room after r

@@ -13,6 +13,7 @@ pub(crate) fn numbers(heap: Global, all: &[BlockVerdict]) -> Result<Vec<u32>, Al
 {
     let mut numbers = Vec::new(heap);
     numbers.push(all.len() as u32)?;
+    // A `flat_map` over arrays has no fact of the whole list, so this is a loop.
     for verdict in all {
         numbers.extend_from_slice(&row(*verdict))?;
     }

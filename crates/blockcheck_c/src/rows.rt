@@ -1,12 +1,12 @@
 // One verdict as six numbers.
 ghost use Rattle.std.specs.Prelude.{◌≡◌};
-ghost use Rattle.blockcheck_c.specs.Numbers.{general_number, predicate_number, place_number, kind_number, row_of};
+ghost use Rattle.blockcheck_c.specs.Numbers.{general_number, predicate_number, register_number, place_number, kind_number, row_of};
 
 use operations::Dependence;
 use registers::{General, Place, Predicate, Register};
 use verdicts::{BlockVerdict, Standing};
 
-// r0 to r31, rr0 to rr31, p0 to p31, rp0 to rp31 from 0 up; then the memory, and no place.
+// C is handed numbers for places and kinds: r0 to r31, rr0 to rr31, p0 to p31, rp0 to rp31 from 0 up; then the memory, and no place.
 const BANK: u32 = 32;
 
 const MEMORY: u32 = 128;
@@ -31,14 +31,20 @@ fn predicate_number(register: Predicate) -> u32
     }
 }
 
+fn register_number(register: Register) -> u32
+    ensures { result ≡ register_number register }
+{
+    match register {
+        Register::General(g) => general_number(g),
+        Register::Predicate(p) => predicate_number(p),
+    }
+}
+
 fn place_number(place: Place) -> u32
     ensures { result ≡ place_number place }
 {
     match place {
-        Place::Register(register) => match register {
-            Register::General(g) => general_number(g),
-            Register::Predicate(p) => predicate_number(p),
-        },
+        Place::Register(register) => register_number(register),
         Place::Memory => MEMORY,
     }
 }

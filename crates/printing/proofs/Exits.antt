@@ -25,11 +25,7 @@ named_back (If p t) = simp (predicate_raw p, predicate_back p, handed_target t, 
 named_back (Loop t) = simp (handed_target t, block_back t)
 
 goes_same : (x : Exit) → raw_goes_on (raw_exit (written_exit x)) ≡ goes_on x
-goes_same Halt = refl
-goes_same Next = refl
-goes_same (Goto t) = refl
-goes_same (If p t) = refl
-goes_same (Loop t) = refl
+goes_same x = grind arith
 
 pub exit_back : (n : ℕ) (x : Exit) → (leb 15 n && goes_on x) ≡ false → exit_for n (raw_exit (written_exit x)) ≡ Some x
 exit_back n x h = simp (goes_same x, h, named_back x)

@@ -8,10 +8,6 @@ joined_map : {X Y : Type 0} (f : Y → List ℕ) (g : X → Y) (xs : List X) →
 joined_map f g [] = refl
 joined_map f g (x ∷ xs) = ap (λ l. f (g x) ++ l) (joined_map f g xs)
 
-pub joined_append : {X : Type 0} (f : X → List ℕ) (xs ys : List X) → flat_map f (xs ++ ys) ≡ flat_map f xs ++ flat_map f ys
-joined_append f [] ys = refl
-joined_append f (x ∷ xs) ys = ap (λ l. f x ++ l) (joined_append f xs ys) ∙ sym (append_assoc (f x) (flat_map f xs) (flat_map f ys))
-
 -- one more item has been printed, and P holds of it
 module _ {X : Type 0} (f : X → List ℕ) (P : X → Type 0) where
   pub record Sofar (before now : List ℕ) (xs : List X) : Type 0 where
@@ -29,7 +25,9 @@ printed_all f g P before now xs i h s =
     let t = rw (take_all i xs h) at s in
     (t.text ∙ ap (λ l. before ++ l) (joined_map f g xs), t.each)
 
--- a head, the lines behind it, and a last line
-pub printed_three : {X : Type 0} (f : X → List ℕ) (head : X) (xs : List X) (last : X) (a b c d : List ℕ) → b ≡ a ++ f head → c ≡ b ++ flat_map f xs → d ≡ c ++ f last → d ≡ a ++ flat_map f (head ∷ (xs ++ last ∷ []))
-printed_three f head xs last a b c d p q r =
-    r ∙ ap (λ l. l ++ f last) q ∙ flat_map_more f b xs last ∙ ap (λ l. l ++ flat_map f (xs ++ last ∷ [])) p ∙ append_assoc a (f head) (flat_map f (xs ++ last ∷ []))
+-- a head, the lines behind it, of which Q is known, and a last line
+pub printed_three : {X Q : Type 0} (f : X → List ℕ) (head : X) (xs : List X) (last : X) (a b c d : List ℕ) → b ≡ a ++ f head → (c ≡ b ++ flat_map f xs) × Q → d ≡ c ++ f last → (d ≡ a ++ flat_map f (head ∷ (xs ++ last ∷ []))) × Q
+printed_three f head xs last a b c d p q r = (
+  r ∙ ap (λ l. l ++ f last) q.0 ∙ flat_map_more f b xs last ∙ ap (λ l. l ++ flat_map f (xs ++ last ∷ [])) p ∙ append_assoc a (f head) (flat_map f (xs ++ last ∷ [])),
+  q.1,
+)

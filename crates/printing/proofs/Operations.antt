@@ -30,20 +30,17 @@ use Rattle.printing.specs.Written.{written_general, written_predicate, written_s
 use Rattle.printing.specs.Printed.{entry_text}
 
 general_same : (g : General) → general_name_text (written_general g) ≡ general_text g
-general_same (general.TheVariants.Static n) = refl
-general_same (general.TheVariants.Rotating n) = refl
+general_same g = grind arith
 
 predicate_same : (p : Predicate) → predicate_name_text (written_predicate p) ≡ predicate_text p
-predicate_same (predicate.TheVariants.Static n) = refl
-predicate_same (predicate.TheVariants.Rotating n) = refl
+predicate_same p = grind arith
 
 source_same : (s : Source) → operand_text (written_source s) ≡ source_text s
 source_same (source.TheVariants.Register g) = general_same g
 source_same (source.TheVariants.Literal z) = refl
 
 guard_same : (p : Predicate) → guard_text (written_predicate p) ≡ text.guard_text p
-guard_same (predicate.TheVariants.Static n) = refl
-guard_same (predicate.TheVariants.Rotating n) = refl
+guard_same p = grind arith
 
 -- the line has the text of the operation
 pub text_same : (g : Predicate) (f : Form) → written_text (written_operation (record { guard = g; form = f })) ≡ operation_text (record { guard = g; form = f })

@@ -1,20 +1,19 @@
 -- No line has a newline in it, so the lines of a text are found again. Assumes nothing.
-use Rattle.std.proofs.Common.{◌≡◌, ℕ, suc, Bool, true, false, cond, not, ◌&&◌, eqb, List, [], ◌∷◌, ◌++◌, map, ℤ, pos, negsuc, Some, None, codes, decimal, Option, refl, ap, ◌∙◌, ap₂, append_assoc, arith}
+use Rattle.std.proofs.Common.{◌≡◌, ℕ, suc, Bool, true, false, cond, not, ◌&&◌, eqb, List, [], ◌∷◌, ◌++◌, map, ℤ, pos, negsuc, Some, None, codes, decimal, Option, sym, refl, ap, ◌∙◌, ap₂, append_assoc, arith}
 use Rattle.std.specs.Str.Parse.{AllDigits}
-use Rattle.std.specs.List.{AllByRecursion}
+use Rattle.std.specs.List.{AllByRecursion, list_all}
+use Rattle.std.proofs.lemmas.List.Folds.{list_all-append}
+use Rattle.std.proofs.lemmas.List.Sums.{AllPass-from_list_all}
+use Rattle.text.proofs.Cuts.{line_before}
 use Rattle.std.specs.Fmt.{signed_decimal}
 use Rattle.std.proofs.lemmas.Fmt.{decimal_is_IsNumeral}
 use Rattle.std.proofs.lemmas.Str.Parse.{digit_from_value}
-use Rattle.std.proofs.lemmas.Bool.{and_parts}
+use Rattle.std.proofs.lemmas.Bool.{false≢true}
 use Rattle.std.proofs.lemmas.Bool.Decides.{nat_tests}
 use Rattle.opcodes.specs.declared.integer.BinaryOpcode.{BinaryOpcode}
-use Rattle.opcodes.specs.declared.integer.BinaryOpcode.TheVariants.{Add, Sub, And, Or, Xor, Shl, Shr, Shra, Min, Max, Minl, Maxl}
 use Rattle.opcodes.specs.declared.integer.UnaryOpcode.{UnaryOpcode}
-use Rattle.opcodes.specs.declared.integer.UnaryOpcode.TheVariants.{Abs, Move}
 use Rattle.opcodes.specs.declared.compare.Condition.{Condition}
-use Rattle.opcodes.specs.declared.compare.Condition.TheVariants.{Never, Equal, Less, LessEqual, LogicalLess, LogicalLessEqual, Always, NotEqual, GreaterEqual, Greater, LogicalGreaterEqual, LogicalGreater}
 use Rattle.opcodes.specs.declared.compare.Action.{Action}
-use Rattle.opcodes.specs.declared.compare.Action.TheVariants.{Un, Uc, Cn, Cc, On, Oc, An, Ac}
 use Rattle.opcodes.specs.Texts.{binary_text, unary_text, condition_text, action_text}
 use Rattle.lines.specs.declared.written.WrittenGeneral.{WrittenGeneral}
 use Rattle.lines.specs.declared.written.WrittenGeneral.TheVariants as general_name
@@ -39,29 +38,18 @@ use Rattle.lines.specs.declared.written.ProgramLine.TheVariants as line
 use Rattle.lines.specs.Numbers.{Short, ShortLiteral}
 use Rattle.lines.specs.Written.{general_name_text, predicate_name_text, name_text, opcode_text, operand_text, sources_text, destinations_text, guard_text, written_text, general_number, predicate_number, ShortName, ShortOperand, ShortSources, ShortDestinations, ShortOperation}
 use Rattle.lines.specs.Lines.{position_text, exit_text, program_line_text, ShortPosition, ShortExit, ShortProgram}
-use Rattle.text.specs.Texts.{longer, lines_of}
+use Rattle.text.specs.Texts.{lines_of}
 use Rattle.printing.specs.Sets.{lines_text}
 
 abbrev pub plain : List ℕ → Bool
-plain [] = true
-plain (b ∷ bs) = not (eqb b 10) && plain bs
+plain bs = list_all (λ b. not (eqb b 10)) bs
 
 -- a line that ends is the first line
-pub line_first : (l rest : List ℕ) → plain l ≡ true → lines_of (l ++ 10 ∷ rest) ≡ l ∷ lines_of rest
-line_first [] rest h = refl
-line_first (b ∷ bs) rest h =
-    let p = and_parts (not (eqb b 10)) (plain bs) h in
-    by (eqb b 10) refl p.0 (line_first bs rest p.1)
-  where
-    by : (t : Bool) → eqb b 10 ≡ t → not t ≡ true → lines_of (bs ++ 10 ∷ rest) ≡ bs ∷ lines_of rest → cond t ([] ∷ lines_of (bs ++ 10 ∷ rest)) (longer b (lines_of (bs ++ 10 ∷ rest))) ≡ (b ∷ bs) ∷ lines_of rest
-    by true e n ih = let z : ◌≡◌ {A = ℕ} 0 1 = cc in absurd (omega arith)
-    by false e n ih = ap (longer b) ih
+line_first : (l rest : List ℕ) → plain l ≡ true → lines_of (l ++ 10 ∷ rest) ≡ l ∷ lines_of rest
+line_first l rest h = line_before l rest (λ k lt e. false≢true (ap (λ b. not (eqb b 10)) (sym e) ∙ AllPass-from_list_all (λ b. not (eqb b 10)) l h k 0 lt))
 
-pub plain_append : (a b : List ℕ) → plain a ≡ true → plain b ≡ true → plain (a ++ b) ≡ true
-plain_append [] b p q = q
-plain_append (x ∷ a) b p q =
-    let h = and_parts (not (eqb x 10)) (plain a) p in
-    ap₂ (λ s t. s && t) h.0 (plain_append a b h.1 q)
+plain_append : (a b : List ℕ) → plain a ≡ true → plain b ≡ true → plain (a ++ b) ≡ true
+plain_append a b p q = list_all-append (λ c. not (eqb c 10)) a b ∙ ap₂ (λ s t. s && t) p q
 
 plain_digits : (ds : List ℕ) → AllDigits 10 ds → plain ds ≡ true
 plain_digits [] d = refl
@@ -78,46 +66,16 @@ plain_signed (pos n) h = plain_decimal n h
 plain_signed (negsuc n) h = plain_decimal (suc n) h
 
 plain_binary : (o : BinaryOpcode) → plain (binary_text o) ≡ true
-plain_binary Add = refl
-plain_binary Sub = refl
-plain_binary And = refl
-plain_binary Or = refl
-plain_binary Xor = refl
-plain_binary Shl = refl
-plain_binary Shr = refl
-plain_binary Shra = refl
-plain_binary Min = refl
-plain_binary Max = refl
-plain_binary Minl = refl
-plain_binary Maxl = refl
+plain_binary o = grind arith
 
 plain_unary : (o : UnaryOpcode) → plain (unary_text o) ≡ true
-plain_unary Abs = refl
-plain_unary Move = refl
+plain_unary o = grind arith
 
 plain_condition : (c : Condition) → plain (condition_text c) ≡ true
-plain_condition Never = refl
-plain_condition Equal = refl
-plain_condition Less = refl
-plain_condition LessEqual = refl
-plain_condition LogicalLess = refl
-plain_condition LogicalLessEqual = refl
-plain_condition Always = refl
-plain_condition NotEqual = refl
-plain_condition GreaterEqual = refl
-plain_condition Greater = refl
-plain_condition LogicalGreaterEqual = refl
-plain_condition LogicalGreater = refl
+plain_condition o = grind arith
 
 plain_action : (a : Action) → plain (action_text a) ≡ true
-plain_action Un = refl
-plain_action Uc = refl
-plain_action Cn = refl
-plain_action Cc = refl
-plain_action On = refl
-plain_action Oc = refl
-plain_action An = refl
-plain_action Ac = refl
+plain_action o = grind arith
 
 plain_opcode : (o : Opcode) → plain (opcode_text o) ≡ true
 plain_opcode (opcode.Binary o) = plain_append (binary_text o) _ (plain_binary o) refl
@@ -175,7 +133,7 @@ plain_exit (Goto t) h = plain_decimal t h
 plain_exit (If p t) h = plain_append (predicate_name_text p) _ (plain_predicate p h.0) (plain_decimal t h.1)
 plain_exit (Loop t) h = plain_decimal t h
 
-pub plain_line : (w : ProgramLine) → ShortProgram w → plain (program_line_text w) ≡ true
+plain_line : (w : ProgramLine) → ShortProgram w → plain (program_line_text w) ≡ true
 plain_line (line.Block n) h = plain_decimal n h
 plain_line (line.Operation p w) h = plain_position p (written_text w) h.0 (plain_written w h.1)
 plain_line (line.Exit x) h = plain_exit x h

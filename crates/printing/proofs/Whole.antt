@@ -2,6 +2,7 @@
 use Rattle.std.proofs.Common.{◌≡◌, ℕ, suc, ◌+◌, ◌<◌, ◌≤◌, Bool, true, false, cond, not, ◌&&◌, ◌||◌, ltb, leb, List, [], ◌∷◌, ◌++◌, map, length, get_or, set, replicate, Some, None, Ok, Option, sym, refl, ap, ◌∙◌, subst, append_assoc, arith, lt-ltb}
 use Rattle.std.specs.List.{AllByRecursion}
 use Rattle.std.proofs.ByRecursion.{All-append, All-from_get_or}
+use Rattle.std.proofs.lemmas.Bool.{true≢false}
 use Rattle.std.proofs.lemmas.List.{length-append, length_push, length-replicate, get_or_at, get_or-replicate, set_at}
 use Rattle.blocks.specs.declared.description.Slot.{Slot}
 use Rattle.blocks.specs.declared.description.Description.{Description}
@@ -78,14 +79,11 @@ block_back d n b l f =
 -- a block that is not used is empty
 pub unused : (es : List Entry) (x : Exit) → (ltb 0 (length es) || not (halts x)) ≡ false → ◌≡◌ {A = Body} (record { entries = es; exit = x }) empty
 unused [] Halt h = refl
-unused [] Next h = let z : ◌≡◌ {A = ℕ} 0 1 = cc in absurd (omega arith)
-unused [] (Goto t) h = let z : ◌≡◌ {A = ℕ} 0 1 = cc in absurd (omega arith)
-unused [] (If p t) h = let z : ◌≡◌ {A = ℕ} 0 1 = cc in absurd (omega arith)
-unused [] (Loop t) h = let z : ◌≡◌ {A = ℕ} 0 1 = cc in absurd (omega arith)
-unused (e ∷ es) x h =
-    let t : ltb 0 (length (e ∷ es)) ≡ true = lt-ltb 0 (length (e ∷ es)) (omega arith) in
-    let z : ◌≡◌ {A = ℕ} 0 1 = cc in
-    absurd (omega arith)
+unused [] Next h = absurd (true≢false h)
+unused [] (Goto t) h = absurd (true≢false h)
+unused [] (If p t) h = absurd (true≢false h)
+unused [] (Loop t) h = absurd (true≢false h)
+unused (e ∷ es) x h = let t : ltb 0 (length (e ∷ es)) ≡ true = lt-ltb 0 _ (omega arith) in absurd (true≢false cc)
 
 module _ (d : Description) where
   abbrev reading : List Body → Stage → Reading

@@ -3,12 +3,18 @@ use Rattle.std.specs.Prelude.{◌≡◌, ℕ, ◌<◌, true, List}
 use Rattle.std.specs.Option.{option_map}
 use Rattle.operations.specs.Texts.{operation_text}
 use Rattle.blocks.specs.declared.position.Entry.{Entry}
+use Rattle.blocks.specs.Model.{Body}
 use Rattle.blocks.specs.Calls.{State, body_at}
+use Rattle.printing.specs.declared.writing.Contents.{Contents}
 use Rattle.lines.specs.Lines.{position_text}
 use Rattle.lines.specs.Raw.{literals_held}
 use Rattle.text.specs.Loads.{Programs}
 use Rattle.printing.specs.Written.{written_sources, written_position}
 use Rattle.printing.specs.Sets.{block_text, set_text, alone}
+
+-- what stands in a block
+abbrev pub contents_of : Contents → Body
+contents_of c = record { entries = c.entries.now; exit = c.exit }
 
 -- the line of an operation
 abbrev pub entry_text : Entry → List ℕ

@@ -1,4 +1,4 @@
-// That 32 bits hold each literal: nothing is done here but to take an operation apart.
+// That 32 bits hold each literal: a proof learns how large a number in an enum is only where code takes the enum apart, so this is no lemma.
 ghost use Rattle.std.specs.Prelude.{◌≡◌, true};
 ghost use Rattle.lines.specs.Raw.{operand_held, literals_held};
 ghost use Rattle.printing.specs.Written.{written_source, written_sources};

@@ -16,16 +16,9 @@ impl fmt::Display for EntryLine {
     ghost output = { λ x. Some (entry_text x.0) };
 
     fn fmt<W: fmt::Write>(&self, f: &mut fmt::Formatter<W>) -> fmt::Result {
-        let Entry {
-            operation,
-            position,
-        } = self.0;
-        match position {
-            Some(p) => {
-                let cycle = p.cycle;
-                let slot = p.slot;
-                write!(f, "{cycle}:{slot} {operation}")
-            }
+        let operation = self.0.operation;
+        match self.0.position {
+            Some(p) => write!(f, "{}:{} {operation}", p.cycle, p.slot),
             None => write!(f, "- {operation}"),
         }
     }
@@ -41,18 +34,11 @@ impl fmt::Display for ExitLine {
         match self.0 {
             Exit::Halt => write!(f, "exit halt"),
             Exit::Next => write!(f, "exit next"),
-            Exit::Goto(target) => {
-                let block = target.number;
-                write!(f, "exit goto {block}")
-            }
+            Exit::Goto(target) => write!(f, "exit goto {}", target.number),
             Exit::If { predicate, target } => {
-                let block = target.number;
-                write!(f, "exit if {predicate} goto {block}")
+                write!(f, "exit if {predicate} goto {}", target.number)
             }
-            Exit::Loop(target) => {
-                let block = target.number;
-                write!(f, "exit loop {block}")
-            }
+            Exit::Loop(target) => write!(f, "exit loop {}", target.number),
         }
     }
 }

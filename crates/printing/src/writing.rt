@@ -1,66 +1,50 @@
-// Blocks written onto a text.
-ghost use Rattle.std.specs.Prelude.{◌≡◌, ◌++◌, map, string_bytes, OnOk};
+// A block written onto a text.
+ghost use Rattle.std.specs.Prelude.{◌≡◌, ◌<◌, ◌≤◌, ◌++◌, string_bytes, OnOk, MatchOption};
 ghost use Rattle.std.specs.List.{AllByRecursion};
-ghost use Rattle.lines.specs.declared.written.ProgramLine.TheVariants as line;
-ghost use Rattle.printing.specs.Written.{entry_line, written_exit};
-ghost use Rattle.printing.specs.Sets.{line_ended, lines_text, block_text};
-ghost use Rattle.printing.specs.Printed.{Held};
+ghost use Rattle.blocks.specs.Calls.{body_at};
+ghost use Rattle.blocks.specs.Whole.{state_of};
+ghost use Rattle.printing.specs.Sets.{used, block_text};
+ghost use Rattle.printing.specs.Printed.{Held, contents_of};
 
 use crate::literals;
 use crate::shown::{EntryLine, ExitLine};
-use blocks::{Entry, Exit};
+use blocks::{Blocks, Entry, Exit};
 use std::alloc::AllocError;
 
-fn write_head(out: &mut String, block: u8) -> Result<(), AllocError>
-    ensures { OnOk result (string_bytes out.new ≡ string_bytes out.old ++ line_ended (line.Block block)) }
-{
-    match write!(out, "block {block}\n") {
-        Ok(()) => Ok(()),
-        Err(_) => Err(AllocError),
-    }
+// What stands in a block.
+#[derive(Clone, Copy)]
+pub(crate) struct Contents<'a> {
+    pub(crate) entries: &'a [Entry],
+    pub(crate) exit: Exit,
 }
 
-fn write_entry(out: &mut String, placed: Entry) -> Result<(), AllocError>
-    ensures { OnOk result ((string_bytes out.new ≡ string_bytes out.old ++ line_ended (entry_line placed)) × Held placed) }
-{
-    literals::held(placed.operation.form);
-    let line = EntryLine(placed);
-    match write!(out, "{line}\n") {
-        Ok(()) => Ok(()),
-        Err(_) => Err(AllocError),
+impl<'a> Contents<'a> {
+    // Those of the block of that number, where there is one.
+    pub(crate) fn of(blocks: &'a Blocks, block: u8) -> Option<Contents<'a>>
+        ensures { MatchOption result (16 ≤ block) (λ b. (block < 16) × (contents_of b ≡ body_at (state_of blocks.now) block)) }
+    {
+        Some(Contents {
+            entries: blocks.entries(block)?,
+            exit: blocks.exit_of(block)?,
+        })
     }
-}
 
-fn write_exit(out: &mut String, exit: Exit) -> Result<(), AllocError>
-    ensures { OnOk result (string_bytes out.new ≡ string_bytes out.old ++ line_ended (line.Exit (written_exit exit))) }
-{
-    let line = ExitLine(exit);
-    match write!(out, "{line}\n") {
-        Ok(()) => Ok(()),
-        Err(_) => Err(AllocError),
+    // Whether there is an operation, or an exit other than halt.
+    pub(crate) fn is_used(self) -> bool
+        ensures { result ≡ used (contents_of self.entry) }
+    {
+        !self.entries.is_empty() || !matches!(self.exit, Exit::Halt)
     }
-}
 
-fn write_entries(out: &mut String, entries: &[Entry]) -> Result<(), AllocError>
-    ensures { OnOk result ((string_bytes out.new ≡ string_bytes out.old ++ lines_text (map entry_line entries.now)) × AllByRecursion Held entries.now) }
-{
-    for placed in entries {
-        write_entry(out, *placed)?;
+    // Writes them as the lines of that block.
+    pub(crate) fn write(self, out: &mut String, block: u8) -> Result<(), AllocError>
+        ensures { OnOk result ((string_bytes out.new ≡ string_bytes out.old ++ block_text block (contents_of self.entry)) × AllByRecursion Held (contents_of self.entry).entries) }
+    {
+        writeln!(out, "block {block}")?;
+        for entry in self.entries {
+            literals::held(entry.operation.form);
+            writeln!(out, "{}", EntryLine(*entry))?;
+        }
+        writeln!(out, "{}", ExitLine(self.exit))
     }
-    Ok(())
-}
-
-// Writes the lines of a block.
-pub(crate) fn write_block(
-    out: &mut String,
-    block: u8,
-    entries: &[Entry],
-    exit: Exit,
-) -> Result<(), AllocError>
-    ensures { OnOk result ((string_bytes out.new ≡ string_bytes out.old ++ block_text block (record { entries = entries.entry.now; exit = exit })) × AllByRecursion Held entries.entry.now) }
-{
-    write_head(out, block)?;
-    write_entries(out, entries)?;
-    write_exit(out, exit)?;
-    Ok(())
 }

@@ -5,20 +5,17 @@ use Rattle.operations.specs.declared.refusal.Refusal.{Refusal}
 use Rattle.operations.specs.declared.refusal.Refusal.TheVariants.{NoSuch, BeyondLimit}
 use Rattle.operations.specs.declared.raw.RawOperation.{RawOperation}
 use Rattle.blocks.specs.Steps.{Outcome, Did}
-use Rattle.blocks.specs.declared.exit.RawExit.{RawExit}
-use Rattle.blocks.specs.Calls.{State, add_call, exit_call}
+use Rattle.blocks.specs.Calls.{State, add_call}
 use Rattle.lines.specs.declared.written.WrittenPosition.{WrittenPosition}
 use Rattle.lines.specs.declared.written.WrittenOperation.{WrittenOperation}
-use Rattle.lines.specs.declared.written.WrittenExit.{WrittenExit}
-use Rattle.lines.specs.Raw.{raw_operation, raw_exit, literals_held}
-use Rattle.text.specs.declared.stage.Stage.TheVariants.{Open, Ended}
-use Rattle.text.specs.Programs.{Reading, slot_there, placed_at, then_placed, operation_call, at_stage, in_open, exit_line}
+use Rattle.lines.specs.Raw.{raw_operation, literals_held}
+use Rattle.text.specs.Programs.{slot_there, placed_at, then_placed, operation_call}
 use Rattle.text.proofs.Placing.{told}
 
-pub told_ok : {X S : Type 0} (s t : S) (r : Result X Refusal) (o : Outcome X S) (x : X) → Did s t r o → r ≡ Ok x → o ≡ Ok (x, t)
+told_ok : {X S : Type 0} (s t : S) (r : Result X Refusal) (o : Outcome X S) (x : X) → Did s t r o → r ≡ Ok x → o ≡ Ok (x, t)
 told_ok s t r o x did is = MatchResult-at_ok (λ y. o ≡ Ok (y, t)) (λ e. o ≡ Err e) x is (told s t r o did)
 
-pub told_err : {X S : Type 0} (s t : S) (r : Result X Refusal) (o : Outcome X S) (e : Refusal) → Did s t r o → r ≡ Err e → o ≡ Err e
+told_err : {X S : Type 0} (s t : S) (r : Result X Refusal) (o : Outcome X S) (e : Refusal) → Did s t r o → r ≡ Err e → o ≡ Err e
 told_err s t r o e did is = MatchResult-at_err (λ y. o ≡ Ok (y, t)) (λ d. o ≡ Err d) e is (told s t r o did)
 
 operation_is : (s : State) (n : ℕ) (q : Option WrittenPosition) (w : WrittenOperation) (raw : RawOperation) (o : Outcome ℕ State) (h : Bool) → true ≡ slot_there s q → raw ≡ raw_operation w → add_call s n raw ≡ o → h ≡ literals_held w.sources → operation_call s n q w ≡ then_placed n q h o
@@ -58,15 +55,3 @@ pub then_told :
 then_told s t u n q w raw r i a there is did at held =
     let P : Outcome (Unit {0}) State → Type 0 = λ o. MatchResult a (λ _. o ≡ Ok (tt, u)) (λ e. o ≡ Err e) in
     subst P (sym (operation_is s n q w raw (Ok (i, t)) true there is (told_ok s t r (add_call s n raw) i did at) held))
-
-pub exit_refused :
-    (v : Reading) (n : ℕ) (x : WrittenExit) (raw : RawExit) (t : State) (r : Result (Unit {0}) Refusal) (e : Refusal)
-    → v.stage ≡ Open n
-    → raw ≡ raw_exit x
-    → Did v.state t r (exit_call v.state n raw)
-    → r ≡ Err e
-    → exit_line v x ≡ Err e
-exit_refused v n x raw t r e here is did at =
-    ap (λ g. in_open g (λ b. at_stage (Ended b) (exit_call v.state b (raw_exit x)))) here
-    ∙ ap (λ y. at_stage (Ended n) (exit_call v.state n y)) (sym is)
-    ∙ ap (at_stage (Ended n)) (told_err v.state t r (exit_call v.state n raw) e did at)

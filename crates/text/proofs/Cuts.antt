@@ -1,20 +1,24 @@
 -- The first line of a text. Assumes nothing.
-use Rattle.std.proofs.Common.{◌≡◌, ℕ, suc, ◌+◌, ◌-◌, ◌<◌, ◌≤◌, cond, List, [], ◌∷◌, ◌++◌, length, get_or, take, drop, sym, refl, ap, ◌∙◌, arith, length-append, take-append-drop, ne_eqb}
+use Rattle.std.proofs.Common.{◌≡◌, ℕ, Bool, true, false, Some, None, suc, ◌+◌, ◌-◌, ◌<◌, ◌≤◌, cond, eqb, ltb, eqb-true, ltb-false, List, [], ◌∷◌, ◌++◌, length, get_or, take, drop, sym, refl, ap, ◌∙◌, arith, length-append, take-append-drop, ne_eqb}
+use Rattle.std.specs.List.{position, position_or_len}
+use Rattle.std.proofs.lemmas.Bool.{eqb-false}
+use Rattle.std.proofs.lemmas.Option.{none-some}
+use Rattle.std.proofs.lemmas.List.Quantifiers.{position-Some}
+use Rattle.std.proofs.lemmas.List.Sums.{fails_before_first}
 use Rattle.std.proofs.lemmas.List.{take_rest, drop_more, get_or-take, length-take-le}
 use Rattle.text.specs.Texts.{NoNewline, longer, lines_of}
 
-pub cut_at : (t : List ℕ) (i : ℕ) → i < length t → get_or t i 0 ≡ 10 → t ≡ take (i - 0) t ++ 10 ∷ take (length t - (i + 1)) (drop (i + 1) t)
+cut_at : (t : List ℕ) (i : ℕ) → i < length t → get_or t i 0 ≡ 10 → t ≡ take i t ++ 10 ∷ take (length t - (i + 1)) (drop (i + 1) t)
 cut_at t i h e =
     sym (take-append-drop i t)
     ∙ ap (λ l. take i t ++ l) (drop_more t i 0 h)
     ∙ ap (λ b. take i t ++ b ∷ drop (i + 1) t) e
-    ∙ ap (λ j. take j t ++ 10 ∷ drop (i + 1) t) (omega arith)
-    ∙ ap (λ l. take (i - 0) t ++ 10 ∷ l) (sym (take_rest t (i + 1)))
+    ∙ ap (λ l. take i t ++ 10 ∷ l) (sym (take_rest t (i + 1)))
 
-pub front_plain : (t : List ℕ) (i : ℕ) → i ≤ length t → ((k : ℕ) → k < i → get_or t k 0 ≡ 10 → ⊥) → NoNewline (take (i - 0) t)
+front_plain : (t : List ℕ) (i : ℕ) → i ≤ length t → ((k : ℕ) → k < i → eqb (get_or t k 0) 10 ≡ false) → NoNewline (take i t)
 front_plain t i h none k lt e =
-    let l : k < i = omega (arith, length-take-le (i - 0) t (omega arith)) in
-    none k l (sym (get_or-take (i - 0) t k 0 (omega arith)) ∙ e)
+    let l : k < i = omega (arith, length-take-le i t (omega arith)) in
+    eqb-false (get_or t k 0) 10 (none k l) (sym (get_or-take i t k 0 (omega arith)) ∙ e)
 
 tail_plain : (b : ℕ) (l : List ℕ) → NoNewline (b ∷ l) → NoNewline l
 tail_plain b l none k lt e = none (suc k) (omega arith) e
@@ -43,15 +47,28 @@ line_last [] none some = absurd (some refl)
 line_last (b ∷ l) none some = line_alone b l none
 
 -- the first line and the lines behind it; fewer bytes are left
-pub cut_line : (t l rest : List ℕ) → t ≡ l ++ 10 ∷ rest → NoNewline l → (lines_of t ≡ l ∷ lines_of rest) × (length rest < length t)
-cut_line t l rest e none = (ap lines_of e ∙ line_before l rest none, omega (arith, ap length e, length-append l (10 ∷ rest)))
+line_cut : (t l rest : List ℕ) → t ≡ l ++ 10 ∷ rest → NoNewline l → (lines_of t ≡ l ∷ lines_of rest) × (length rest < length t)
+line_cut t l rest e none = (ap lines_of e ∙ line_before l rest none, omega (arith, ap length e, length-append l (10 ∷ rest)))
+
+pub cut_line : (t : List ℕ) (i : ℕ) → position (λ b. eqb b 10) t ≡ Some i → (lines_of t ≡ take i t ∷ lines_of (take (length t - (i + 1)) (drop (i + 1) t))) × (length (take (length t - (i + 1)) (drop (i + 1) t)) < length t)
+cut_line t i e =
+    let p = position-Some (λ b. eqb b 10) t i 0 e in
+    line_cut t _ _ (cut_at t i p.0 (eqb-true (get_or t i 0) 10 p.1)) (front_plain t i (omega arith) p.2)
 
 behind_all : (t : List ℕ) → take (length t - length t) (drop (length t) t) ≡ []
 behind_all t =
     let e : length t - length t ≡ 0 = omega arith in
     ap (λ n. take n (drop (length t) t)) e
 
-pub last_line : (t : List ℕ) → NoNewline t → (length t ≡ 0 → ⊥) → (lines_of t ≡ t ∷ lines_of (take (length t - length t) (drop (length t) t))) × (length (take (length t - length t) (drop (length t) t)) < length t)
+none_plain : (t : List ℕ) → position (λ b. eqb b 10) t ≡ None → NoNewline t
+none_plain t e k lt = eqb-false (get_or t k 0) 10 (fails_before_first (λ b. eqb b 10) t k 0 (by (ltb (position_or_len (λ b. eqb b 10) t) (length t)) refl e))
+  where
+    by : (b : Bool) → ltb (position_or_len (λ b. eqb b 10) t) (length t) ≡ b → cond b (Some (position_or_len (λ b. eqb b 10) t)) None ≡ None → k < position_or_len (λ b. eqb b 10) t
+    by true h n = absurd (none-some _ (sym n))
+    by false h n = let m = ltb-false _ _ h in omega arith
+
+pub last_line : (t : List ℕ) → position (λ b. eqb b 10) t ≡ None → eqb (length t) 0 ≡ false → (lines_of t ≡ t ∷ lines_of (take (length t - length t) (drop (length t) t))) × (length (take (length t - length t) (drop (length t) t)) < length t)
 last_line t none some =
     let e = behind_all t in
-    (line_last t none some ∙ ap (λ r. t ∷ lines_of r) (sym e), omega (arith, ap length e, some))
+    let long = eqb-false (length t) 0 some in
+    (line_last t (none_plain t none) long ∙ ap (λ r. t ∷ lines_of r) (sym e), omega (arith, ap length e, long))

@@ -1,5 +1,6 @@
 -- The machine's description, line by line. Assumes nothing.
 use Rattle.std.specs.Prelude.{◌≡◌, ℕ, ◌<◌, cond, ◌&&◌, List, [], ◌∷◌, ◌++◌, length, Some, None, Ok, Err, Option, Result, ◌==◌, nat_lt}
+use Rattle.std.specs.Option.{ok_or}
 use Rattle.operations.specs.declared.refusal.Refusal.{Refusal}
 use Rattle.operations.specs.declared.refusal.Refusal.TheVariants.{Unreadable, NoSuch}
 use Rattle.blocks.specs.declared.description.Slot.{Slot}
@@ -26,6 +27,10 @@ with_slot d (Some s) = Ok (record { slots = d.slots ++ s ∷ []; bounds = d.boun
 abbrev pub with_bounds : Described → Result Bounds Refusal → Result Described Refusal
 with_bounds d (Ok b) = Ok (record { slots = d.slots; bounds = d.bounds ++ b ∷ [] })
 with_bounds d (Err e) = Err e
+
+-- a slot that comes behind k others
+abbrev pub slot_numbered : ℕ → ℕ → Classes → Result Slot Refusal
+slot_numbered k n c = cond (n == k) (cond (nat_lt n 8) (ok_or (slot_taking c.integer c.memory c.compare) Unreadable) (Err NoSuch)) (Err Unreadable)
 
 -- slots come first, in the order of their numbers
 abbrev pub slot_line : Described → ℕ → Classes → Result Described Refusal

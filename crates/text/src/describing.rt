@@ -1,129 +1,89 @@
 // A description, line by line.
-ghost use Rattle.std.specs.Prelude.{◌≡◌, [], Ok, Err, MatchOption, MatchResult};
-ghost use Rattle.blocks.specs.Machine.{bounded, slots_of};
-ghost use Rattle.text.specs.Describing.{nothing, slot_line, bounds_line, description_step, Complete, Incomplete};
+ghost use Rattle.std.specs.Prelude.{◌≡◌, ◌<◌, Ok, Err, MatchOption, MatchResult};
+ghost use Rattle.operations.specs.declared.refusal.Refusal.TheVariants.{BeyondLimit};
+ghost use Rattle.blocks.specs.Machine.{bounded};
+ghost use Rattle.lines.specs.Lines.{IsDescriptionLine};
+ghost use Rattle.text.specs.Describing.{Described, slot_numbered, description_step, Complete, Incomplete};
 ghost use Rattle.text.specs.Views.{described_of};
 
 use crate::part::Part;
+use crate::taking::ByLines;
 use blocks::{Bounds, Description, Slot, Slots};
-use lines::{Classes, DescriptionLine, WrittenBounds};
+use lines::{Classes, DescriptionLine, WrittenBounds, description_line};
 use operations::Refusal;
 
 // How many slots there may be.
-const SLOTS: u64 = 8;
+pub(crate) const SLOTS: u64 = 8;
 
-// A number above this bounds no latency.
-const LONGEST: u64 = 31;
+fn bound(written: u64) -> Result<u8, Refusal>
+    ensures { MatchResult result (λ n. n ≡ written) (λ e. (e ≡ BeyondLimit) × (31 < written)) }
+{
+    u8::try_from(written).map_err(|_| Refusal::BeyondLimit)
+}
 
 fn bounds(written: WrittenBounds) -> Result<Bounds, Refusal>
     ensures { result ≡ bounded written.shortest written.longest }
 {
-    if written.shortest > LONGEST || written.longest > LONGEST {
-        return Err(Refusal::BeyondLimit);
-    }
-    Bounds::new(written.shortest as u8, written.longest as u8)
+    Bounds::new(bound(written.shortest)?, bound(written.longest)?)
 }
 
-// The first slot.
-fn first_slot(number: u64, classes: Classes) -> Result<Slots, Refusal>
-    ensures { MatchResult result (λ t. slot_line nothing number classes ≡ Ok (record { slots = slots_of t; bounds = [] })) (λ e. slot_line nothing number classes ≡ Err e) }
+// A slot, where `count` of them come before it.
+fn slot(count: u8, number: u64, classes: Classes) -> Result<Slot, Refusal>
+    ensures { result ≡ slot_numbered count number classes }
 {
-    if number != 0 {
-        return Err(Refusal::Unreadable);
-    }
-    let Some(slot) = Slot::new(classes.integer, classes.memory, classes.compare) else {
-        return Err(Refusal::Unreadable);
-    };
-    Ok(Slots::new(slot))
-}
-
-// One more slot.
-fn next_slot(before: Slots, number: u64, classes: Classes) -> Result<Slots, Refusal>
-    ensures { MatchResult result (λ t. slot_line (record { slots = slots_of before; bounds = [] }) number classes ≡ Ok (record { slots = slots_of t; bounds = [] })) (λ e. slot_line (record { slots = slots_of before; bounds = [] }) number classes ≡ Err e) }
-{
-    if number != before.count as u64 {
+    if number != u64::from(count) {
         return Err(Refusal::Unreadable);
     }
     if number >= SLOTS {
         return Err(Refusal::NoSuch);
     }
-    let Some(slot) = Slot::new(classes.integer, classes.memory, classes.compare) else {
-        return Err(Refusal::Unreadable);
-    };
-    let mut slots = before;
-    slots.add(slot)?;
-    Ok(slots)
+    Slot::new(classes.integer, classes.memory, classes.compare).ok_or(Refusal::Unreadable)
 }
 
 impl Part {
-    fn slot(self, number: u64, classes: Classes) -> Result<Part, Refusal>
-        ensures { MatchResult result (λ t. slot_line (described_of self) number classes ≡ Ok (described_of t)) (λ e. slot_line (described_of self) number classes ≡ Err e) }
-    {
-        match self {
-            Part::Nothing => Ok(Part::Slots(first_slot(number, classes)?)),
-            Part::Slots(before) => Ok(Part::Slots(next_slot(before, number, classes)?)),
-            Part::Integer { .. } | Part::Load { .. } | Part::All(_) => Err(Refusal::Unreadable),
-        }
-    }
-
-    fn integer(self, written: WrittenBounds) -> Result<Part, Refusal>
-        ensures { MatchResult result (λ t. bounds_line 0 (described_of self) written ≡ Ok (described_of t)) (λ e. bounds_line 0 (described_of self) written ≡ Err e) }
-    {
-        match self {
-            Part::Slots(slots) => Ok(Part::Integer {
-                slots,
-                integer: bounds(written)?,
-            }),
-            Part::Nothing | Part::Integer { .. } | Part::Load { .. } | Part::All(_) => Err(
-                Refusal::Unreadable,
-            ),
-        }
-    }
-
-    fn load(self, written: WrittenBounds) -> Result<Part, Refusal>
-        ensures { MatchResult result (λ t. bounds_line 1 (described_of self) written ≡ Ok (described_of t)) (λ e. bounds_line 1 (described_of self) written ≡ Err e) }
-    {
-        match self {
-            Part::Integer { slots, integer } => Ok(Part::Load {
-                slots,
-                integer,
-                load: bounds(written)?,
-            }),
-            Part::Nothing | Part::Slots(_) | Part::Load { .. } | Part::All(_) => Err(
-                Refusal::Unreadable,
-            ),
-        }
-    }
-
-    fn compare(self, written: WrittenBounds) -> Result<Part, Refusal>
-        ensures { MatchResult result (λ t. bounds_line 2 (described_of self) written ≡ Ok (described_of t)) (λ e. bounds_line 2 (described_of self) written ≡ Err e) }
-    {
-        match self {
-            Part::Load {
-                slots,
-                integer,
-                load,
-            } => Ok(Part::All(Description {
-                slots,
-                integer,
-                load,
-                compare: bounds(written)?,
-            })),
-            Part::Nothing | Part::Slots(_) | Part::Integer { .. } | Part::All(_) => Err(
-                Refusal::Unreadable,
-            ),
-        }
-    }
-
     // One line more.
-    pub(crate) fn step(self, line: DescriptionLine) -> Result<Part, Refusal>
+    fn next(self, line: DescriptionLine) -> Result<Part, Refusal>
         ensures { MatchResult result (λ t. description_step (described_of self) line ≡ Ok (described_of t)) (λ e. description_step (described_of self) line ≡ Err e) }
     {
-        match line {
-            DescriptionLine::Slot { number, classes } => self.slot(number, classes),
-            DescriptionLine::Integer(written) => self.integer(written),
-            DescriptionLine::Load(written) => self.load(written),
-            DescriptionLine::Compare(written) => self.compare(written),
+        match (self, line) {
+            (Part::Nothing, DescriptionLine::Slot { number, classes }) => {
+                let slot = slot(0, number, classes)?;
+                Ok(Part::Slots(Slots::new(slot)))
+            }
+            (Part::Slots(mut slots), DescriptionLine::Slot { number, classes }) => {
+                let slot = slot(slots.count, number, classes)?;
+                slots.add(slot)?;
+                Ok(Part::Slots(slots))
+            }
+            (Part::Slots(slots), DescriptionLine::Integer(written)) => {
+                let integer = bounds(written)?;
+                Ok(Part::Integer { slots, integer })
+            }
+            (Part::Integer { slots, integer }, DescriptionLine::Load(written)) => {
+                let load = bounds(written)?;
+                Ok(Part::Load {
+                    slots,
+                    integer,
+                    load,
+                })
+            }
+            (
+                Part::Load {
+                    slots,
+                    integer,
+                    load,
+                },
+                DescriptionLine::Compare(written),
+            ) => {
+                let compare = bounds(written)?;
+                Ok(Part::All(Description {
+                    slots,
+                    integer,
+                    load,
+                    compare,
+                }))
+            }
+            _ => Err(Refusal::Unreadable),
         }
     }
 
@@ -135,5 +95,26 @@ impl Part {
             Part::All(description) => Some(description),
             Part::Nothing | Part::Slots(_) | Part::Integer { .. } | Part::Load { .. } => None,
         }
+    }
+}
+
+impl ByLines for Part {
+    type Said = DescriptionLine;
+
+    ghost State = { Described };
+
+    ghost view = { described_of };
+
+    ghost Line = { IsDescriptionLine };
+
+    ghost step = { description_step };
+
+    fn said(line: &[u8]) -> Option<DescriptionLine> {
+        description_line(line)
+    }
+
+    fn step(&mut self, said: DescriptionLine) -> Result<(), Refusal> {
+        *self = self.next(said)?;
+        Ok(())
     }
 }

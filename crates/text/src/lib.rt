@@ -12,6 +12,6 @@ mod taking;
 mod two_texts;
 
 pub use cutting::cut_line;
-pub use fault::{Answer, Fault};
+pub use fault::{Fault, RefusedText};
 pub use stage::Stage;
 pub use two_texts::{LIMIT, load};

@@ -1,47 +1,23 @@
 // What the lines of a program do to the blocks.
 ghost use Rattle.std.specs.Prelude.{◌≡◌, ◌<◌, ◌≤◌, Ok, Err, MatchResult};
 ghost use Rattle.blocks.specs.Whole.{state_of};
-ghost use Rattle.text.specs.Programs.{above, slot_there, placed_at, operation_call, block_line, operation_line, exit_line, program_step};
+ghost use Rattle.lines.specs.Lines.{IsProgramLine};
+ghost use Rattle.text.specs.Programs.{Reading, above, slot_there, placed_at, operation_call, block_line, operation_line, exit_line, program_step};
 ghost use Rattle.text.specs.Views.{reading_of};
 
+use crate::describing::SLOTS;
 use crate::loading::Loading;
 use crate::stage::Stage;
+use crate::taking::ByLines;
 use blocks::Blocks;
-use lines::{ProgramLine, WrittenExit, WrittenOperation, WrittenPosition};
+use lines::{ProgramLine, WrittenExit, WrittenOperation, WrittenPosition, program_line};
 use operations::Refusal;
 
 // How many cycles a block may have.
 const CYCLES: u64 = 1024;
 
-// How many slots a machine may have.
-const SLOTS: u64 = 8;
-
 // How many blocks there are.
 const BLOCKS: u64 = 16;
-
-// The cycle; 1024 for all above.
-fn cycle(written: u64) -> u16
-    ensures same { written < 1024 → result ≡ written }
-    ensures beyond { 1024 ≤ written → 1024 ≤ result }
-{
-    if written < CYCLES {
-        written as u16
-    } else {
-        CYCLES as u16
-    }
-}
-
-// The slot; 8 for all above.
-fn slot(written: u64) -> u8
-    ensures same { written < 8 → result ≡ written }
-    ensures beyond { 8 ≤ written → 8 ≤ result }
-{
-    if written < SLOTS {
-        written as u8
-    } else {
-        SLOTS as u8
-    }
-}
 
 impl Stage {
     // Whether a block of that number may come next.
@@ -50,7 +26,7 @@ impl Stage {
     {
         match self {
             Stage::Start => true,
-            Stage::Open(last) | Stage::Ended(last) => number > last as u64,
+            Stage::Open(last) | Stage::Ended(last) => number > u64::from(last),
         }
     }
 }
@@ -58,10 +34,8 @@ impl Stage {
 fn has_slot(blocks: &Blocks, position: Option<WrittenPosition>) -> bool
     ensures { result ≡ slot_there (state_of blocks.now) position }
 {
-    match position {
-        Some(position) => position.slot < blocks.description().slots.count as u64,
-        None => true,
-    }
+    let slots = blocks.description().slots.count;
+    position.is_none_or(|position| position.slot < u64::from(slots))
 }
 
 fn place(
@@ -76,8 +50,8 @@ fn place(
         Some(position) => blocks.place(
             block,
             operation,
-            cycle(position.cycle),
-            slot(position.slot),
+            position.cycle.min(CYCLES) as u16,
+            position.slot.min(SLOTS) as u8,
         ),
         None => Ok(()),
     }
@@ -94,10 +68,7 @@ fn add(
     if !has_slot(blocks, position) {
         return Err(Refusal::NoSuch);
     }
-    let number = match blocks.add(block, operation.raw()) {
-        Ok(number) => number,
-        Err(refusal) => return Err(refusal),
-    };
+    let number = blocks.add(block, operation.raw())?;
     if !operation.literals_held() {
         return Err(Refusal::BeyondLimit);
     }
@@ -111,6 +82,7 @@ impl Loading {
         if !self.stage.above(number) {
             return Err(Refusal::Unreadable);
         }
+        // With `try_from` the bound would still have to be tested.
         if number >= BLOCKS {
             return Err(Refusal::NoSuch);
         }
@@ -137,18 +109,29 @@ impl Loading {
         let Stage::Open(block) = self.stage else {
             return Err(Refusal::Unreadable);
         };
-        if let Err(refusal) = self.blocks.exit(block, exit.raw()) {
-            return Err(refusal);
-        }
+        self.blocks.exit(block, exit.raw())?;
         self.stage = Stage::Ended(block);
         Ok(())
     }
+}
 
-    // One line more.
-    pub(crate) fn step(&mut self, line: ProgramLine) -> Result<(), Refusal>
-        ensures { MatchResult result (λ _. program_step (reading_of self.old) line ≡ Ok (reading_of self.new)) (λ e. program_step (reading_of self.old) line ≡ Err e) }
-    {
-        match line {
+impl ByLines for Loading {
+    type Said = ProgramLine;
+
+    ghost State = { Reading };
+
+    ghost view = { reading_of };
+
+    ghost Line = { IsProgramLine };
+
+    ghost step = { program_step };
+
+    fn said(line: &[u8]) -> Option<ProgramLine> {
+        program_line(line)
+    }
+
+    fn step(&mut self, said: ProgramLine) -> Result<(), Refusal> {
+        match said {
             ProgramLine::Block(number) => self.block(number),
             ProgramLine::Operation {
                 position,

@@ -1,65 +1,57 @@
-// The lines of the two texts, taken in.
-ghost use Rattle.std.specs.Prelude.{Ok, Err, MatchResult};
-ghost use Rattle.lines.specs.Lines.{IsProgramLine, IsDescriptionLine};
-ghost use Rattle.text.specs.Describing.{nothing, description_step};
-ghost use Rattle.text.specs.Programs.{program_step};
-ghost use Rattle.text.specs.Views.{described_of, reading_of};
+// The lines of a text, taken in one by one.
+ghost use Rattle.std.specs.Prelude.{◌≡◌, ℕ, List, Ok, Err, Some, Result, IfSome, MatchResult};
+ghost use Rattle.operations.specs.declared.refusal.Refusal.{Refusal};
 ghost use Rattle.text.specs.Texts.{lines_of, Taken};
 ghost use Rattle.text.specs.Turns.{GoesOn, Stops};
 
 use crate::cutting::cut_line;
-use crate::loading::Loading;
-use crate::part::Part;
-use lines::{description_line, program_line};
+use crate::fault::RefusedText;
 use operations::Refusal;
 
-fn describe(part: Part, line: &[u8]) -> Result<Part, Refusal>
-    ensures { MatchResult result (λ t. GoesOn IsDescriptionLine description_step (described_of part) line.now (described_of t)) (λ e. Stops IsDescriptionLine description_step (described_of part) line.now e) }
-{
-    let Some(said) = description_line(line) else {
-        return Err(Refusal::Unreadable);
-    };
-    part.step(said)
+// What is read line by line.
+pub(crate) trait ByLines {
+    type Said;
+
+    ghost State: { Type 0 };
+
+    ghost view: { Self → State };
+
+    // The line is the text of what it says.
+    ghost Line: { List ℕ → Self.Said → Type 0 };
+
+    ghost step: { State → Self.Said → Result State Refusal };
+
+    // What a line says.
+    fn said(line: &[u8]) -> Option<Self::Said>
+        ensures sound { IfSome result (λ w. Line line.now w) }
+        ensures complete { (w : Self.Said) → Line line.now w → result ≡ Some w };
+
+    // One line more.
+    fn step(&mut self, said: Self::Said) -> Result<(), Refusal>
+        ensures { MatchResult result (λ _. step (view self.old) said ≡ Ok (view self.new)) (λ e. step (view self.old) said ≡ Err e) };
 }
 
-fn read(loading: &mut Loading, line: &[u8]) -> Result<(), Refusal>
-    ensures { MatchResult result (λ _. GoesOn IsProgramLine program_step (reading_of loading.old) line.now (reading_of loading.new)) (λ e. Stops IsProgramLine program_step (reading_of loading.old) line.now e) }
+#[tactic(auto, using(crate::proofs::Turning::unread_stops))]
+fn take_line<R: ByLines>(reading: &mut R, line: &[u8]) -> Result<(), Refusal>
+    ensures { MatchResult result (λ _. GoesOn R.Line R.step (R.view reading.old) line.now (R.view reading.new)) (λ e. Stops R.Line R.step (R.view reading.old) line.now e) }
 {
-    let Some(said) = program_line(line) else {
-        return Err(Refusal::Unreadable);
-    };
-    loading.step(said)
+    let said = R::said(line).ok_or(Refusal::Unreadable)?;
+    reading.step(said)
 }
 
-// What the text says of the machine, or why it is refused, with the line at fault.
-pub(crate) fn described<'a>(text: &'a [u8]) -> (Result<Part, Refusal>, &'a [u8])
-    ensures { MatchResult result.0 (λ p. Taken IsDescriptionLine description_step nothing (lines_of text.now) (Ok (described_of p))) (λ e. Taken IsDescriptionLine description_step nothing (lines_of text.now) (Err (e, result.1.now))) }
-{
-    let mut part = Part::Nothing;
-    let mut rest = text;
-    while let Some((line, after)) = cut_line(rest) {
-        match describe(part, line) {
-            Ok(next) => part = next,
-            Err(refusal) => return (Err(refusal), line),
-        }
-        rest = after;
-    }
-    (Ok(part), rest)
-}
-
-// Takes in the program, or answers why it is refused, with the line at fault.
-pub(crate) fn programmed<'a>(
-    loading: &mut Loading,
+// Takes in the lines of the text, or answers why one is refused.
+#[tactic(auto, using(crate::proofs::Turning::ends))]
+pub(crate) fn take_lines<'a, R: ByLines>(
+    reading: &mut R,
     text: &'a [u8],
-) -> (Result<(), Refusal>, &'a [u8])
-    ensures { MatchResult result.0 (λ _. Taken IsProgramLine program_step (reading_of loading.old) (lines_of text.now) (Ok (reading_of loading.new))) (λ e. Taken IsProgramLine program_step (reading_of loading.old) (lines_of text.now) (Err (e, result.1.now))) }
+) -> Result<(), RefusedText<'a>>
+    ensures { MatchResult result (λ _. Taken R.Line R.step (R.view reading.old) (lines_of text.now) (Ok (R.view reading.new))) (λ r. Taken R.Line R.step (R.view reading.old) (lines_of text.now) (Err (r.refusal, r.line.now))) }
 {
     let mut rest = text;
+    // Of what a closure changes a proof knows nothing after `try_for_each`, so this is a loop.
     while let Some((line, after)) = cut_line(rest) {
-        if let Err(refusal) = read(loading, line) {
-            return (Err(refusal), line);
-        }
+        take_line(reading, line).map_err(|refusal| RefusedText { refusal, line })?;
         rest = after;
     }
-    (Ok(()), rest)
+    Ok(())
 }

@@ -1,12 +1,14 @@
 // Both texts loaded.
-ghost use Rattle.std.specs.Prelude.{◌≡◌, Err};
-ghost use Rattle.text.specs.declared.fault.Fault.TheVariants as fault;
-ghost use Rattle.text.specs.Answered.{Answered, ProgramAnswered};
+ghost use Rattle.std.specs.Prelude.{◌≡◌, ◌<◌, [], length, MatchResult};
+ghost use Rattle.operations.specs.declared.refusal.Refusal.TheVariants.{BeyondLimit};
+ghost use Rattle.text.specs.Loads.{FitsText, Describes};
+ghost use Rattle.text.specs.Answered.{Answered, NotDescribed};
 
-use crate::fault::{Answer, Fault};
+use crate::fault::{Fault, RefusedText};
 use crate::loading::Loading;
+use crate::part::Part;
 use crate::stage::Stage;
-use crate::taking::{described, programmed};
+use crate::taking::take_lines;
 use blocks::{Blocks, Description};
 use operations::Refusal;
 use std::alloc::Global;
@@ -14,58 +16,42 @@ use std::alloc::Global;
 // How many bytes a text may have.
 pub const LIMIT: usize = 65_535;
 
-fn load_program<'a>(heap: Global, description: Description, program: &'a [u8]) -> Answer<'a>
-    ensures { ProgramAnswered description program.now result.loaded result.line.now }
+// Refuses a text that is too long.
+fn fits<'a>(text: &'a [u8]) -> Result<(), RefusedText<'a>>
+    ensures { MatchResult result (λ _. FitsText text.now) (λ r. (65535 < length text.now) × (r.refusal ≡ BeyondLimit) × (r.line.now ≡ [])) }
 {
-    let Ok(blocks) = Blocks::new(heap, description) else {
-        return Answer {
-            loaded: Err(Fault::Memory),
-            line: &program[0..0],
-        };
-    };
-    let mut loading = Loading {
-        blocks,
-        stage: Stage::Start,
-    };
-    let (read, line) = programmed(&mut loading, program);
-    match read {
-        Ok(()) => Answer {
-            loaded: Ok(loading.blocks),
-            line: &program[0..0],
-        },
-        Err(refusal) => Answer {
-            loaded: Err(Fault::Refused(refusal)),
-            line,
-        },
+    if text.len() > LIMIT {
+        return Err(RefusedText {
+            refusal: Refusal::BeyondLimit,
+            line: &text[..0],
+        });
     }
+    Ok(())
 }
 
-fn refused<'a>(refusal: Refusal, line: &'a [u8]) -> Answer<'a>
-    ensures loaded { result.loaded ≡ Err (fault.Refused refusal) }
-    ensures line { result.line.now ≡ line.now }
+// The machine that the text describes.
+fn described<'a>(text: &'a [u8]) -> Result<Description, RefusedText<'a>>
+    ensures { MatchResult result (λ x. Describes text.now x) (λ r. NotDescribed text.now r.refusal r.line.now) }
 {
-    Answer {
-        loaded: Err(Fault::Refused(refusal)),
-        line,
-    }
+    let mut part = Part::Nothing;
+    take_lines(&mut part, text)?;
+    part.finished().ok_or(RefusedText {
+        refusal: Refusal::Unreadable,
+        line: &text[..0],
+    })
 }
 
 // The blocks of the two texts. A text that is too long is refused first, the description's before the program's; then the description is read, and then the program.
-pub fn load<'a>(heap: Global, description: &'a [u8], program: &'a [u8]) -> Answer<'a>
-    ensures { Answered description.now program.now result.loaded result.line.now }
+pub fn load<'a>(heap: Global, description: &'a [u8], program: &'a [u8]) -> Result<Blocks, Fault<'a>>
+    ensures { Answered description.now program.now result }
 {
-    if description.len() > LIMIT {
-        return refused(Refusal::BeyondLimit, &description[0..0]);
-    }
-    if program.len() > LIMIT {
-        return refused(Refusal::BeyondLimit, &program[0..0]);
-    }
-    let (read, line) = described(description);
-    match read {
-        Ok(part) => match part.finished() {
-            Some(machine) => load_program(heap, machine, program),
-            None => refused(Refusal::Unreadable, &description[0..0]),
-        },
-        Err(refusal) => refused(refusal, line),
-    }
+    fits(description)?;
+    fits(program)?;
+    let machine = described(description)?;
+    let mut loading = Loading {
+        blocks: Blocks::new(heap, machine)?,
+        stage: Stage::Start,
+    };
+    take_lines(&mut loading, program)?;
+    Ok(loading.blocks)
 }

@@ -1,5 +1,5 @@
 -- The blocks that have operations, one by one. Assumes nothing.
-use Rattle.std.proofs.Common.{◌≡◌, ℕ, ◌+◌, ◌<◌, ◌≤◌, Bool, true, false, cond, ◌&&◌, ltb, List, [], ◌∷◌, ◌++◌, map, length, drop, IfSome, Some, None, Ok, Option, Result, sym, refl, ap, ◌∙◌, subst, append_assoc, append-nil, arith}
+use Rattle.std.proofs.Common.{◌≡◌, ℕ, ◌+◌, ◌<◌, ◌≤◌, Bool, true, false, cond, ◌&&◌, ltb, List, [], ◌∷◌, ◌++◌, map, length, drop, Some, None, Ok, Option, Result, sym, refl, ap, ◌∙◌, subst, append_assoc, append-nil, arith}
 use Rattle.std.specs.List.{AllByRecursion}
 use Rattle.std.proofs.slice.Lists.{all_by_recursion_push}
 use Rattle.std.proofs.lemmas.List.{drop_more, drop_all, length_push, map-append}
@@ -23,9 +23,6 @@ pub record ToldBelow (s : State) (n : ℕ) (vs : List BlockVerdict) : Type 0 whe
   pub all : map block_of vs ++ filled_from n (drop n s.bodies) ≡ filled_from 0 s.bodies
   pub each : AllByRecursion (λ v. Checked s v.block (answer_of v.standing)) vs
   pub few : length vs ≤ n
-
-pub below_none : (s : State) → ToldBelow s 0 []
-below_none s = record { all = refl; each = tt; few = omega arith }
 
 here : (s : State) (n : ℕ) → n < length s.bodies → filled_from n (drop n s.bodies) ≡ cond (ltb 0 (length (body_at s n).entries)) (n ∷ []) [] ++ filled_from (n + 1) (drop (n + 1) s.bodies)
 here s n h = ap (filled_from n) (drop_more s.bodies n empty h)
@@ -72,6 +69,3 @@ below_all s n vs h sixteen t = record {
   each = t.each;
   few = omega (arith, t.few);
 }
-
-pub none_some : (x : Standing) → ◌≡◌ {A = Option Standing} None (Some x) → ⊥
-none_some x e = subst (λ o. IfSome o (λ _. ⊥)) e tt

@@ -17,10 +17,9 @@ const BLOCKS: u8 = 16;
 fn is_filled(blocks: &Blocks, block: u8) -> bool
     ensures { result ≡ filled (state_of blocks.now) block }
 {
-    match blocks.entries(block) {
-        Some(entries) => entries.len() > 0,
-        None => false,
-    }
+    blocks
+        .entries(block)
+        .is_some_and(|entries| !entries.is_empty())
 }
 
 // How a block stands to which check answers so; None where there is no such block.
@@ -29,14 +28,9 @@ fn standing(answer: Result<Verdict, Refusal>) -> Option<Standing>
     ensures complete { (s : Standing) → answer ≡ answer_of s → result ≡ Some s }
 {
     match answer {
-        Ok(verdict) => match verdict {
-            Verdict::Kept => Some(Standing::Kept),
-            Verdict::Violated(violation) => Some(Standing::Violated(violation)),
-        },
-        Err(refusal) => match refusal {
-            Refusal::Unplaced(lowest) => Some(Standing::Unplaced(lowest)),
-            _ => None,
-        },
+        Ok(verdict) => Some(Standing::from(verdict)),
+        Err(Refusal::Unplaced(lowest)) => Some(Standing::Unplaced(lowest)),
+        Err(_) => None,
     }
 }
 
@@ -44,7 +38,8 @@ fn standing(answer: Result<Verdict, Refusal>) -> Option<Standing>
 pub fn verdicts(heap: Global, blocks: &Blocks) -> Result<Vec<BlockVerdict>, AllocError>
     ensures { IfOk result (λ v. Told (state_of blocks.now) v.items) }
 {
-    let mut all = Vec::with_capacity(heap, BLOCKS as usize)?;
+    let mut all = Vec::with_capacity(heap, usize::from(BLOCKS))?;
+    // What `check` answers is told by a relation, and of that `filter_map` tells no order: so this is a loop.
     for block in 0..BLOCKS {
         if !is_filled(blocks, block) {
             continue;

@@ -6,6 +6,7 @@ use crate::verdict::{BlockVerdict, Standing};
 use operations::{Dependence, Violation};
 use std::fmt;
 
+// An `impl` is taken only for a type of one's own, and these two are those of `operations`.
 #[derive(Clone, Copy)]
 struct Kind(Dependence);
 
@@ -31,28 +32,25 @@ impl fmt::Display for Named {
 
     fn fmt<W: fmt::Write>(&self, f: &mut fmt::Formatter<W>) -> fmt::Result {
         let violation = self.0;
-        let kind = Kind(violation.dependence);
-        let place = violation.place;
-        let first = violation.first;
-        let second = violation.second;
-        let least = violation.least;
-        write!(f, "{kind} {place} {first} {second} needs {least}")
+        write!(
+            f,
+            "{} {} {} {} needs {}",
+            Kind(violation.dependence),
+            violation.place,
+            violation.first,
+            violation.second,
+            violation.least
+        )
     }
 }
 
-#[derive(Clone, Copy)]
-struct Stands(Standing);
-
-impl fmt::Display for Stands {
-    ghost output = { λ s. Some (standing_text s.0) };
+impl fmt::Display for Standing {
+    ghost output = { λ s. Some (standing_text s) };
 
     fn fmt<W: fmt::Write>(&self, f: &mut fmt::Formatter<W>) -> fmt::Result {
-        match self.0 {
+        match *self {
             Standing::Kept => write!(f, "kept"),
-            Standing::Violated(violation) => {
-                let named = Named(violation);
-                write!(f, "{named}")
-            }
+            Standing::Violated(violation) => write!(f, "{}", Named(violation)),
             Standing::Unplaced(lowest) => write!(f, "unplaced {lowest}"),
         }
     }
@@ -62,8 +60,6 @@ impl fmt::Display for BlockVerdict {
     ghost output = { λ v. Some (block_verdict_text v) };
 
     fn fmt<W: fmt::Write>(&self, f: &mut fmt::Formatter<W>) -> fmt::Result {
-        let block = self.block;
-        let stands = Stands(self.standing);
-        write!(f, "block {block} {stands}")
+        write!(f, "block {} {}", self.block, self.standing)
     }
 }

@@ -1,4 +1,8 @@
 // What is said of one block.
+ghost use Rattle.std.specs.Prelude.{◌≡◌, Ok};
+ghost use Rattle.verdicts.specs.Listing.{answer_of};
+
+use checker::Verdict;
 use operations::Violation;
 
 #[derive(Clone, Copy)]
@@ -7,6 +11,17 @@ pub enum Standing {
     Violated(Violation),
     // The lowest operation that is not placed.
     Unplaced(u8),
+}
+
+impl From<Verdict> for Standing {
+    ghost from_gives = { λ v s. Ok v ≡ answer_of s };
+
+    fn from(verdict: Verdict) -> Standing {
+        match verdict {
+            Verdict::Kept => Standing::Kept,
+            Verdict::Violated(violation) => Standing::Violated(violation),
+        }
+    }
 }
 
 #[derive(Clone, Copy)]

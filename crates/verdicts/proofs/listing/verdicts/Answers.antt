@@ -1,8 +1,9 @@
 use Rattle.std.proofs.Common.{◌+◌, sym, subst, arith}
+use Rattle.std.proofs.lemmas.Option.{none-some}
 use Rattle.blocks.proofs.Counted.{sixteen}
 use Rattle.checker.specs.Checks.{Checked}
 use Rattle.blocks.specs.Whole.{state_of}
-use Rattle.verdicts.proofs.Filling.{ToldBelow, below_more, below_skip, below_all, stands, none_some}
+use Rattle.verdicts.proofs.Filling.{ToldBelow, below_more, below_skip, below_all, stands}
 use Rattle.verdicts.proofs.listing.verdicts.Goals as goal
 
 pub loop-block-preserved : goal.loop-block-preserved
@@ -18,7 +19,7 @@ pub loop-block-preserved-in_default : goal.loop-block-preserved-in_default
 loop-block-preserved-in_default c =
     let s = state_of c.args.blocks.now in
     let x = stands s c.loop-block.block _ (omega arith) c.check.ensures in
-    absurd (none_some x.0 (c.in_default.ensures.complete x.0 x.1))
+    absurd (none-some x.0 (c.in_default.ensures.complete x.0 x.1))
 
 pub returns : goal.returns
 returns c = below_all (state_of c.args.blocks.now) c.loop-block.block _ (omega arith) (sixteen c.args.blocks.now) c.loop-block.invariant

@@ -1,9 +1,0 @@
-use Rattle.std.proofs.Common.{take, string_bytes}
-use Rattle.printing.specs.Written.{entry_line}
-use Rattle.printing.specs.Sets.{line_ended}
-use Rattle.printing.specs.Printed.{Held}
-use Rattle.printing.proofs.Loops.{Sofar}
-use Rattle.printing.proofs.writing.write_entries.Given as goal
-
-abbrev pub invariant-loop-placed : goal.invariant-loop-placed
-invariant-loop-placed l = Sofar (λ e. line_ended (entry_line e)) Held (string_bytes l.initial.out) (string_bytes l.out) (take l.placed-index l.entries)
