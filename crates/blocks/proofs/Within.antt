@@ -25,6 +25,9 @@ body_read bs n x h read = get_or-map body_of bs n x empty h ∙ ap body_of (sym 
 long : (B : Blocks) (n : ℕ) → n < 16 → n < length B.blocks.items
 long B n h = omega (arith, B.blocks.ok.0, B.sixteen)
 
+abbrev with_bodies : Blocks → List Body → State
+with_bodies B ys = record { description = B.description; bodies = ys }
+
 -- block n went from x to w and answered r, by that step
 module _ {X : Type 0} (B : Blocks) (n : ℕ) (x w : Block) (r : Result X Refusal) (step : Body → Outcome X Body) (below : n < 16) (read : x ≡ get_or B.blocks.items n x) (did : Did (body_of x) (body_of w) r (step (body_of x))) where
   here : get_or (bodies_of B.blocks.items) n empty ≡ body_of x
@@ -39,18 +42,15 @@ module _ {X : Type 0} (B : Blocks) (n : ℕ) (x w : Block) (r : Result X Refusal
   answer_back (Ok p) = refl
   answer_back (Err e) = refl
 
-  abbrev with_bodies : List Body → State
-  with_bodies ys = record { description = B.description; bodies = ys }
-
-  after_back : (o : Outcome X Body) → after (state_of B) (put_back (state_of B) n o) ≡ with_bodies (set (bodies_of B.blocks.items) n (after (body_of x) o))
+  after_back : (o : Outcome X Body) → after (state_of B) (put_back (state_of B) n o) ≡ with_bodies B (set (bodies_of B.blocks.items) n (after (body_of x) o))
   after_back (Ok p) = refl
-  after_back (Err e) = sym (ap with_bodies (ap (set (bodies_of B.blocks.items) n) (sym here) ∙ set-get_or (bodies_of B.blocks.items) n empty))
+  after_back (Err e) = sym (ap (with_bodies B) (ap (set (bodies_of B.blocks.items) n) (sym here) ∙ set-get_or (bodies_of B.blocks.items) n empty))
 
-  pub within : Did (state_of B) (with_bodies (bodies_of (set B.blocks.items n w))) r (in_block (state_of B) n step)
-  within = record {
+  once : Did (state_of B) (with_bodies B (bodies_of (set B.blocks.items n w))) r (in_block (state_of B) n step)
+  once = record {
     answered = did.answered ∙ sym (ap answer opened ∙ answer_back (step (body_of x)));
     left =
-        ap with_bodies (map-set body_of B.blocks.items n w ∙ ap (set (bodies_of B.blocks.items) n) did.left)
+        ap (with_bodies B) (map-set body_of B.blocks.items n w ∙ ap (set (bodies_of B.blocks.items) n) did.left)
         ∙ sym (ap (after (state_of B)) opened ∙ after_back (step (body_of x)));
   }
 
@@ -73,8 +73,23 @@ module _ {X : Type 0} (B : Blocks) (n : ℕ) (x w : Block) (r : Result X Refusal
       (λ (nq : k ≡ n → ⊥). subst R (sym (ap (λ l. get_or l k empty) m ∙ get_or-set_other (bodies_of B.blocks.items) n k (body_of w) empty nq)) (good_at k))
       (cases_eq k n)
 
-  pub within_good : ((b : Body) → Good (slots_of B.description.slots) n b → Good (slots_of B.description.slots) n (after b (step b))) → BlocksFit (slots_of B.description.slots) (set B.blocks.items n w) × (LastEnds (set B.blocks.items n w) × Unit {0})
-  within_good keeps = (λ k. (good_after keeps k).0, ((good_after keeps 15).1 refl, tt))
+  once_good : ((b : Body) → Good (slots_of B.description.slots) n b → Good (slots_of B.description.slots) n (after b (step b))) → BlocksFit (slots_of B.description.slots) (set B.blocks.items n w) × LastEnds (set B.blocks.items n w)
+  once_good keeps = (λ k. (good_after keeps k).0, (good_after keeps 15).1 refl)
+
+-- the same with the number m that the block was found by
+module _ {X : Type 0} (B : Blocks) (m n : ℕ) (same : m ≡ n) (x w : Block) (r : Result X Refusal) (step : Body → Outcome X Body) (below : n < 16) (read : x ≡ get_or B.blocks.items m x) (did : Did (body_of x) (body_of w) r (step (body_of x))) where
+  found : x ≡ get_or B.blocks.items n x
+  found = let P : ℕ → Type 0 = λ k. x ≡ get_or B.blocks.items k x in subst P same read
+
+  pub within : Did (state_of B) (with_bodies B (bodies_of (set B.blocks.items m w))) r (in_block (state_of B) n step)
+  within =
+      let P : ℕ → Type 0 = λ k. Did (state_of B) (with_bodies B (bodies_of (set B.blocks.items k w))) r (in_block (state_of B) n step) in
+      subst P (sym same) (once B n x w r step below found did)
+
+  pub within_good : ((b : Body) → Good (slots_of B.description.slots) n b → Good (slots_of B.description.slots) n (after b (step b))) → BlocksFit (slots_of B.description.slots) (set B.blocks.items m w) × LastEnds (set B.blocks.items m w)
+  within_good keeps =
+      let P : ℕ → Type 0 = λ k. BlocksFit (slots_of B.description.slots) (set B.blocks.items k w) × LastEnds (set B.blocks.items k w) in
+      subst P (sym same) (once_good B n x w r step below found did keeps)
 
 -- blocks that are all empty
 pub one_more : (bs : List Block) (x : Block) (n : ℕ) → bodies_of bs ≡ replicate n empty → body_of x ≡ empty → bodies_of (bs ++ x ∷ []) ≡ replicate (n + 1) empty
@@ -94,18 +109,3 @@ empty_good slots bs n e =
     let P : Body → Type 0 = λ b. Good slots 15 b in
     let g : Good slots 15 empty = (λ i. refl, λ _. refl) in
     (λ k. (subst P (sym (at k)) g).0, ((subst P (sym (at 15)) g).1 refl, tt))
-
--- what is read of block n
-pub block_read : (B : Blocks) (n : ℕ) (x : Block) → n < 16 → x ≡ get_or B.blocks.items n x → body_of x ≡ body_at (state_of B) n
-block_read B n x h read = sym (body_read B.blocks.items n x (long B n h) read)
-
-pub well_placed : (B : Blocks) (n : ℕ) (x : Block) → body_of x ≡ body_at (state_of B) n → WellPlaced (slots_of B.description.slots) x.entries.items
-well_placed B n x e =
-    let P : Body → Type 0 = λ b. AllFit (slots_of B.description.slots) b.entries in
-    record { few = omega (arith, x.few, x.entries.ok.0); apart = x.apart; fit = subst P (sym e) (B.fit n) }
-
--- the operations of block n, as they are read
-pub entries_read : (B : Blocks) (n : ℕ) (x : Block) → n < 16 → body_of x ≡ body_at (state_of B) n → (es : List Entry) → es ≡ x.entries.items → (n < 16) × (es ≡ (body_at (state_of B) n).entries) × WellPlaced (slots_of B.description.slots) es
-entries_read B n x h e es is =
-    let P : List Entry → Type 0 = λ es. WellPlaced (slots_of B.description.slots) es in
-    (h, is ∙ ap (λ (b : Body). b.entries) e, subst P (sym is) (well_placed B n x e))

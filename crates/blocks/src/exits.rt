@@ -15,6 +15,7 @@ impl BlockNumber {
     pub(crate) fn new(number: u8) -> Option<BlockNumber>
         ensures { result ≡ block_numbered number }
     {
+        // Not by `then`: its closure would have to state the test again.
         if number < BLOCKS {
             Some(BlockNumber { number })
         } else {
