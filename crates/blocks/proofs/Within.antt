@@ -1,19 +1,18 @@
 -- A step of one block, as a step of the whole set. Assumes nothing.
-use Rattle.std.proofs.Common.{◌≡◌, ℕ, zero, suc, ◌+◌, ◌<◌, cond, List, [], ◌∷◌, ◌++◌, length, get_or, set, replicate, Ok, Err, Result, sym, refl, ap, ◌∙◌, subst, ⊎_elim, arith, lt-ltb}
-use Rattle.std.proofs.lemmas.List.{map-set, map_push, get_or-map, set-get_or, length-map, length-replicate, replicate_more, get_or-set_same, get_or-set_other}
+use Rattle.std.proofs.Common.{◌≡◌, ℕ, zero, suc, ◌<◌, cond, List, [], ◌∷◌, length, get_or, set, replicate, Ok, Err, Result, sym, refl, ap, ap₂, ◌∙◌, subst, ⊎_elim, arith, lt-ltb}
+use Rattle.std.proofs.lemmas.List.{map-set, get_or-map, set-get_or, length-map, length-replicate, get_or-set_same, get_or-set_other}
 use Rattle.std.proofs.lemmas.Bool.{cases_eq}
+use Rattle.std.specs.List.{All}
 use Rattle.operations.specs.declared.refusal.Refusal.{Refusal}
 use Rattle.operations.specs.declared.refusal.Refusal.TheVariants.{NoSuch}
 use Rattle.blocks.specs.declared.description.Slot.{Slot}
-use Rattle.blocks.specs.declared.position.Entry.{Entry}
 use Rattle.blocks.specs.declared.block.Block.{Block}
 use Rattle.blocks.specs.declared.blocks.Blocks.{Blocks}
 use Rattle.blocks.specs.Steps.{Outcome, answer, after, Did}
 use Rattle.blocks.specs.Machine.{slots_of}
-use Rattle.blocks.specs.Entries.{AllFit, WellPlaced}
 use Rattle.blocks.specs.Exits.{goes_on}
 use Rattle.blocks.specs.Model.{Body, empty}
-use Rattle.blocks.specs.Calls.{State, body_at, put_back, in_block}
+use Rattle.blocks.specs.Calls.{State, put_back, in_block}
 use Rattle.blocks.specs.View.{body_of, bodies_of, BlocksFit, LastEnds}
 use Rattle.blocks.specs.Whole.{state_of}
 use Rattle.blocks.proofs.Keeps.{Good}
@@ -92,8 +91,11 @@ module _ {X : Type 0} (B : Blocks) (m n : ℕ) (same : m ≡ n) (x w : Block) (r
       subst P (sym same) (once_good B n x w r step below found did keeps)
 
 -- blocks that are all empty
-pub one_more : (bs : List Block) (x : Block) (n : ℕ) → bodies_of bs ≡ replicate n empty → body_of x ≡ empty → bodies_of (bs ++ x ∷ []) ≡ replicate (n + 1) empty
-one_more bs x n e f = map_push body_of bs x ∙ ap (λ m. m ++ body_of x ∷ []) e ∙ ap (λ b. replicate n empty ++ b ∷ []) f ∙ replicate_more n empty
+pub bodies_empty : (bs : List Block) (n : ℕ) → All (λ b. body_of b ≡ empty) bs → length bs ≡ n → bodies_of bs ≡ replicate n empty
+bodies_empty [] zero a l = refl
+bodies_empty [] (suc n) a l = absurd (omega arith)
+bodies_empty (b ∷ bs) zero a l = absurd (omega arith)
+bodies_empty (b ∷ bs) (suc n) a l = ap₂ (λ x xs. x ∷ xs) (a 0 b (omega arith)) (bodies_empty bs n (λ k d h. a (suc k) d (omega arith)) (omega arith))
 
 pub count : (bs : List Block) (n : ℕ) → bodies_of bs ≡ replicate n empty → length bs ≡ n
 count bs n e = sym (length-map bs body_of) ∙ ap length e ∙ length-replicate n empty

@@ -17,11 +17,7 @@ use std::alloc::{AllocError, Global};
 fn empty_blocks(heap: Global) -> Result<Vec<Block>, AllocError>
     ensures { IfOk result (λ v. bodies_of v.items ≡ replicate 16 empty) }
 {
-    let mut blocks = Vec::new(heap);
-    for _i in 0..BLOCKS {
-        blocks.push(Block::new(heap)?)?;
-    }
-    Ok(blocks)
+    (0..BLOCKS).map(|_| Block::new(heap)).try_collect(heap)
 }
 
 impl Blocks {
@@ -40,7 +36,8 @@ impl Blocks {
     pub fn add(&mut self, block: u8, operation: RawOperation) -> Result<u8, Refusal>
         ensures { Did (state_of self.old) (state_of self.new) result (add_call (state_of self.old) block operation) }
     {
-        let found = self.blocks.get_mut(usize::from(block)).ok_or(Refusal::NoSuch)?;
+        let i = usize::from(block);
+        let found = self.blocks.get_mut(i).ok_or(Refusal::NoSuch)?;
         found.add(operation)
     }
 
@@ -48,7 +45,8 @@ impl Blocks {
     pub fn place(&mut self, block: u8, operation: u8, cycle: u16, slot: u8) -> Result<(), Refusal>
         ensures { Did (state_of self.old) (state_of self.new) result (place_call (state_of self.old) block operation cycle slot) }
     {
-        let found = self.blocks.get_mut(usize::from(block)).ok_or(Refusal::NoSuch)?;
+        let i = usize::from(block);
+        let found = self.blocks.get_mut(i).ok_or(Refusal::NoSuch)?;
         found.place(&self.description, operation, cycle, slot)
     }
 
@@ -56,7 +54,8 @@ impl Blocks {
     pub fn lift(&mut self, block: u8, operation: u8) -> Result<(), Refusal>
         ensures { Did (state_of self.old) (state_of self.new) result (lift_call (state_of self.old) block operation) }
     {
-        let found = self.blocks.get_mut(usize::from(block)).ok_or(Refusal::NoSuch)?;
+        let i = usize::from(block);
+        let found = self.blocks.get_mut(i).ok_or(Refusal::NoSuch)?;
         found.lift(operation)
     }
 
@@ -64,7 +63,8 @@ impl Blocks {
     pub fn exit(&mut self, block: u8, raw: RawExit) -> Result<(), Refusal>
         ensures { Did (state_of self.old) (state_of self.new) result (exit_call (state_of self.old) block raw) }
     {
-        let found = self.blocks.get_mut(usize::from(block)).ok_or(Refusal::NoSuch)?;
+        let i = usize::from(block);
+        let found = self.blocks.get_mut(i).ok_or(Refusal::NoSuch)?;
         found.leave_by(raw.typed(block).ok_or(Refusal::NoSuch)?);
         Ok(())
     }

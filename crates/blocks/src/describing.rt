@@ -17,7 +17,7 @@ impl Slot {
     pub fn new(integer: bool, memory: bool, compare: bool) -> Option<Slot>
         ensures { result ≡ slot_taking integer memory compare }
     {
-        // Not by `then`: its closure would have to state the test again.
+        // No `then`: a closure that makes a slot would have to require this test once more.
         if integer || memory || compare {
             Some(Slot {
                 integer,
@@ -66,7 +66,9 @@ impl Slots {
     pub(crate) fn get(&self, slot: u8) -> Option<Slot>
         ensures { result ≡ slot_at (slots_of self.now) slot }
     {
-        self.slots[..usize::from(self.count)].get(usize::from(slot)).copied()
+        self.slots[..usize::from(self.count)]
+            .get(usize::from(slot))
+            .copied()
     }
 }
 

@@ -10,7 +10,7 @@ use crate::block::Block;
 use crate::description::Description;
 use crate::exit::Exit;
 use crate::position::{Entry, Position};
-use operations::{Class, RawOperation, Refusal};
+use operations::{RawOperation, Refusal};
 use std::alloc::{AllocError, Global};
 
 // How many operations a block may have.
@@ -28,14 +28,6 @@ impl Position {
     }
 }
 
-// The class of operation `i`.
-fn class_at(entries: &[Entry], i: usize) -> Class
-    requires { i < length entries.now }
-    ensures { result ≡ class_at entries.now i }
-{
-    entries[i].operation.class()
-}
-
 // Whether the entry is placed there.
 fn is_at(entry: &Entry, position: Position) -> bool
     ensures { result ≡ clash entry.now.position (Some position) }
@@ -47,7 +39,10 @@ fn is_at(entry: &Entry, position: Position) -> bool
 fn occupied(entries: &[Entry], own: usize, position: Position) -> bool
     ensures { result ≡ occupied entries.now own position }
 {
-    entries.iter().enumerate().any(|(k, entry)| k != own && is_at(entry, position))
+    entries
+        .iter()
+        .enumerate()
+        .any(|(k, entry)| k != own && is_at(entry, position))
 }
 
 // The refusal of an operation for a block that may be full as well: the one whose row is above.
@@ -108,13 +103,14 @@ impl Block {
         ensures { Did (body_of self.old) (body_of self.new) result (place_step (slots_of description.now.slots) (body_of self.old) operation cycle slot) }
     {
         let i = usize::from(operation);
-        if i >= self.entries.len() || slot >= description.slots.count {
+        let entry = self.entries.get(i).ok_or(Refusal::NoSuch)?;
+        if slot >= description.slots.count {
             return Err(Refusal::NoSuch);
         }
         if cycle >= CYCLES {
             return Err(Refusal::BeyondLimit);
         }
-        if !description.takes(slot, class_at(self.entries.as_slice(), i)) {
+        if !description.takes(slot, entry.operation.class()) {
             return Err(Refusal::ClassNotTaken);
         }
         let position = Position::at(cycle, slot);

@@ -16,7 +16,7 @@ invariant_of-self-2 c =
     let typed : exit_for c.args.block c.args.raw ≡ Some c.in_ok-ok_or.field-0 = sym c.typed.ensures ∙ c.in_ok-ok_or.ensures.ok_part in
     let did : Did x (body_of c.leave_by.new.self) (Ok tt) (step x) = done _ _ _ _ _ (ap (leave_by x) typed) refl c.leave_by.ensures in
     let below : c.args.block < 16 = grind (arith, common_steps) in
-    let good = within_good c.args.self.now _ _ c.from.ensures c.in_ok-found.found.now _ _ step below (search rules) did (λ b g. exit_keeps _ _ b g c.args.raw) in
+    let good = within_good c.args.self.now _ _ c.from-i.ensures c.in_ok-found.found.now _ _ step below (search rules) did (λ b g. exit_keeps _ _ b g c.args.raw) in
     record { sixteen = c.args.self.now.sixteen; fit = good.0; last = good.1 }
 
 pub returns : goal.returns
@@ -26,4 +26,4 @@ returns c =
     let typed : exit_for c.args.block c.args.raw ≡ Some c.in_ok-ok_or.field-0 = sym c.typed.ensures ∙ c.in_ok-ok_or.ensures.ok_part in
     let did : Did x (body_of c.leave_by.new.self) (Ok tt) (step x) = done _ _ _ _ _ (ap (leave_by x) typed) refl c.leave_by.ensures in
     let below : c.args.block < 16 = grind (arith, common_steps) in
-    within c.args.self.now _ _ c.from.ensures c.in_ok-found.found.now _ _ step below (search rules) did
+    within c.args.self.now _ _ c.from-i.ensures c.in_ok-found.found.now _ _ step below (search rules) did
