@@ -1,11 +1,10 @@
 -- A step of one block, as a step of the whole set. Assumes nothing.
 use Rattle.std.proofs.Common.{◌≡◌, ℕ, zero, suc, ◌<◌, cond, List, [], ◌∷◌, length, get_or, set, replicate, Ok, Err, Result, sym, refl, ap, ap₂, ◌∙◌, subst, ⊎_elim, arith, lt-ltb}
-use Rattle.std.proofs.lemmas.List.{map-set, get_or-map, set-get_or, length-map, length-replicate, get_or-set_same, get_or-set_other}
+use Rattle.std.proofs.lemmas.List.{map-set, get_or-map, set-get_or, length-map, get_or-set_same, get_or-set_other}
 use Rattle.std.proofs.lemmas.Bool.{cases_eq}
 use Rattle.std.specs.List.{All}
 use Rattle.operations.specs.declared.refusal.Refusal.{Refusal}
 use Rattle.operations.specs.declared.refusal.Refusal.TheVariants.{NoSuch}
-use Rattle.blocks.specs.declared.description.Slot.{Slot}
 use Rattle.blocks.specs.declared.block.Block.{Block}
 use Rattle.blocks.specs.declared.blocks.Blocks.{Blocks}
 use Rattle.blocks.specs.Steps.{Outcome, answer, after, Did}
@@ -96,18 +95,3 @@ bodies_empty [] zero a l = refl
 bodies_empty [] (suc n) a l = absurd (omega arith)
 bodies_empty (b ∷ bs) zero a l = absurd (omega arith)
 bodies_empty (b ∷ bs) (suc n) a l = ap₂ (λ x xs. x ∷ xs) (a 0 b (omega arith)) (bodies_empty bs n (λ k d h. a (suc k) d (omega arith)) (omega arith))
-
-pub count : (bs : List Block) (n : ℕ) → bodies_of bs ≡ replicate n empty → length bs ≡ n
-count bs n e = sym (length-map bs body_of) ∙ ap length e ∙ length-replicate n empty
-
-all_empty : (n k : ℕ) → get_or (replicate n empty) k empty ≡ empty
-all_empty zero k = refl
-all_empty (suc n) zero = refl
-all_empty (suc n) (suc k) = all_empty n k
-
-pub empty_good : (slots : List Slot) (bs : List Block) (n : ℕ) → bodies_of bs ≡ replicate n empty → BlocksFit slots bs × (LastEnds bs × Unit {0})
-empty_good slots bs n e =
-    let at : (k : ℕ) → get_or (bodies_of bs) k empty ≡ empty = λ k. ap (λ m. get_or m k empty) e ∙ all_empty n k in
-    let P : Body → Type 0 = λ b. Good slots 15 b in
-    let g : Good slots 15 empty = (λ i. refl, λ _. refl) in
-    (λ k. (subst P (sym (at k)) g).0, ((subst P (sym (at 15)) g).1 refl, tt))
