@@ -7,7 +7,7 @@ use crate::section::Section;
 fn holds_word(s: &Section, word: u32) -> bool
     ensures { result ≡ holds_word s.now word }
 {
-    s.offset / 4 <= word && ((word - s.offset / 4) as u64) < s.length / 4
+    s.offset / 4 <= word && u64::from(word - s.offset / 4) < s.length / 4
 }
 
 // The place among `room` words of the word at an address.

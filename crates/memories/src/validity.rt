@@ -8,7 +8,7 @@ use crate::section::Section;
 fn right_after(s: &Section, low: u64) -> bool
     ensures { result ≡ (right s.now && nat_le low s.now.offset) }
 {
-    s.is_right() && low <= s.offset as u64
+    s.is_right() && low <= u64::from(s.offset)
 }
 
 // Whether each is right, and begins where the one before it ends, or after.
@@ -20,7 +20,7 @@ pub fn in_order(sections: &[Section]) -> bool
         if !right_after(s, low) {
             return false;
         }
-        low = s.offset as u64 + s.length;
+        low = u64::from(s.offset) + s.length;
     }
     true
 }

@@ -10,7 +10,7 @@ returns-then-not-right_after c =
 
 pub loop-s-preserved : goal.loop-s-preserved
 loop-s-preserved c =
-    sym (order_at _ _ _ _ true c.loop-s-test.true (sym c.right_after.ensures ∙ c.if-not-right_after.false)) ∙ c.loop-s.invariant
+    rw c.from.ensures (sym (order_at _ _ _ _ true c.loop-s-test.true (sym c.right_after.ensures ∙ c.if-not-right_after.false)) ∙ c.loop-s.invariant)
 
 pub returns : goal.returns
 returns c = sym (ap (in_order c.loop-s.low) (drop_all _ _ c.loop-s-test.false)) ∙ c.loop-s.invariant
