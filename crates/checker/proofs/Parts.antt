@@ -64,7 +64,7 @@ module _ (a b : Placed) (all : (m : ℕ) → m < 7 → PartKept (get_or (parts_o
     ]
   ]
 
-pair_kept : (a b : Placed) → All (λ o. PartKept o a b) (parts_of a) → broken Memory place.Memory a b ≡ false → PairKept a b
+pub pair_kept : (a b : Placed) → All (λ o. PartKept o a b) (parts_of a) → broken Memory place.Memory a b ≡ false → PairKept a b
 pair_kept a b all memory = record { registers = register_kept a b (λ m h. all m None h); memory = memory }
 
 -- the broken dependence of the memory

@@ -26,19 +26,14 @@ fn print_write(rt: &HostRuntime, write: Write) -> io::Result<()> {
 
 // What the destinations got: `p2 = 1`, `p2 = 1, p3 = 0` or `nothing`.
 fn print_writes(rt: &HostRuntime, first: Option<Write>, second: Option<Write>) -> io::Result<()> {
-    let Some(a) = first else {
-        return match second {
-            Some(b) => print_write(rt, b),
-            None => print!(rt; "nothing"),
-        };
-    };
-    print_write(rt, a)?;
-    match second {
-        Some(b) => {
+    match (first, second) {
+        (Some(a), Some(b)) => {
+            print_write(rt, a)?;
             print!(rt; ", ")?;
             print_write(rt, b)
         }
-        None => Ok(()),
+        (Some(only), None) | (None, Some(only)) => print_write(rt, only),
+        (None, None) => print!(rt; "nothing"),
     }
 }
 
