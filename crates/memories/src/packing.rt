@@ -19,6 +19,7 @@ pub fn find(sections: &[Section], room: usize, address: u32) -> Option<usize>
         return None;
     }
     let word = address / 4;
+    // A loop, for the base is wanted where the search ends, and of a closure that keeps one a proof knows nothing.
     let mut base: usize = 0;
     for s in sections {
         if holds_word(s, word) {
