@@ -5,12 +5,17 @@ ghost use Rattle.worked_examples.specs.Execution.{word_in, bit_in, source_in, ef
 use operations::{Effect, Operation, Source};
 use registers::{General, Predicate, Write};
 
+// What the registers of a kind hold, by number.
+#[derive(Clone, Copy)]
+pub struct Bank<T> {
+    pub fixed: [T; 32],
+    pub rotating: [T; 32],
+}
+
 #[derive(Clone, Copy)]
 pub struct State {
-    pub words: [u32; 32],
-    pub rotating_words: [u32; 32],
-    pub bits: [bool; 32],
-    pub rotating_bits: [bool; 32],
+    pub words: Bank<u32>,
+    pub bits: Bank<bool>,
 }
 
 impl State {
@@ -19,10 +24,14 @@ impl State {
         ensures { result ≡ cleared }
     {
         State {
-            words: [0; 32],
-            rotating_words: [0; 32],
-            bits: [false; 32],
-            rotating_bits: [false; 32],
+            words: Bank {
+                fixed: [0; 32],
+                rotating: [0; 32],
+            },
+            bits: Bank {
+                fixed: [false; 32],
+                rotating: [false; 32],
+            },
         }
     }
 
@@ -30,8 +39,8 @@ impl State {
         ensures { result ≡ word_in self.now g }
     {
         g.constant().unwrap_or_else(|| match g {
-            General::Static(n) => self.words[usize::from(n.get())],
-            General::Rotating(n) => self.rotating_words[usize::from(n.get())],
+            General::Static(n) => self.words.fixed[usize::from(n.get())],
+            General::Rotating(n) => self.words.rotating[usize::from(n.get())],
         })
     }
 
@@ -39,8 +48,8 @@ impl State {
         ensures { result ≡ bit_in self.now p }
     {
         p.constant().unwrap_or_else(|| match p {
-            Predicate::Static(n) => self.bits[usize::from(n.get())],
-            Predicate::Rotating(n) => self.rotating_bits[usize::from(n.get())],
+            Predicate::Static(n) => self.bits.fixed[usize::from(n.get())],
+            Predicate::Rotating(n) => self.bits.rotating[usize::from(n.get())],
         })
     }
 
@@ -72,12 +81,12 @@ impl State {
         if let Some(write) = write {
             match write {
                 Write::Word { to, value } => match to {
-                    General::Static(n) => self.words[usize::from(n.get())] = value,
-                    General::Rotating(n) => self.rotating_words[usize::from(n.get())] = value,
+                    General::Static(n) => self.words.fixed[usize::from(n.get())] = value,
+                    General::Rotating(n) => self.words.rotating[usize::from(n.get())] = value,
                 },
                 Write::Bit { to, value } => match to {
-                    Predicate::Static(n) => self.bits[usize::from(n.get())] = value,
-                    Predicate::Rotating(n) => self.rotating_bits[usize::from(n.get())] = value,
+                    Predicate::Static(n) => self.bits.fixed[usize::from(n.get())] = value,
+                    Predicate::Rotating(n) => self.bits.rotating[usize::from(n.get())] = value,
                 },
             }
         }
