@@ -1,14 +1,12 @@
 -- Slots and bounds are made where their parts are right. Assumes nothing.
-use Rattle.std.proofs.Common.{◌≡◌, ℕ, ◌<◌, ◌≤◌, Bool, true, false, ◌||◌, map, length, get_or, Some, None, Ok, Option, Result, sym, refl, ap, ◌∙◌, subst, ap₂, arith, rules}
+use Rattle.std.proofs.Common.{◌≡◌, ℕ, ◌≤◌, Bool, true, false, ◌||◌, Some, Ok, Option, Result, refl, ap, ◌∙◌, subst, ap₂, arith, rules}
 use mathlib.Core.Bool.{Bool-set}
 use native.Mathlib.Bridge.{le_prop}
-use Rattle.std.proofs.lemmas.List.{get_or-map, get_or-take, get_or_past, length-map, length-take-le}
 use Rattle.std.proofs.lemmas.Bool.Decides.{nat_tests}
 use Rattle.operations.specs.declared.refusal.Refusal.{Refusal}
 use Rattle.blocks.specs.declared.description.Slot.{Slot}
-use Rattle.blocks.specs.declared.description.Slots.{Slots}
 use Rattle.blocks.specs.declared.description.Bounds.{Bounds}
-use Rattle.blocks.specs.Machine.{slot_for, slot_taking, slots_of, slot_at, in_order, bounds_for, bounded}
+use Rattle.blocks.specs.Machine.{slot_for, slot_taking, in_order, bounds_for, bounded}
 
 abbrev slot : (i m c : Bool) → (i || m || c) ≡ true → Slot
 slot i m c e = record { integer = i; memory = m; compare = c; some = e }
@@ -38,17 +36,3 @@ bounds_there x = by (in_order x.shortest x.longest) refl (grind (arith, nat_test
     by : (b : Bool) (h : in_order x.shortest x.longest ≡ b) → b ≡ true → ◌≡◌ {A = Result Bounds Refusal} (Ok x) (bounds_for x.shortest x.longest b h)
     by true h t = ap (λ (y : Bounds). Ok y) (same_bounds x _ refl refl)
     by false h t = search rules
-
-pub length_slots : (s : Slots) → length (slots_of s) ≡ s.count
-length_slots s = length-take-le s.count s.slots (omega arith)
-
-pub slot_read : (s : Slots) (i : ℕ) (d : Slot) → i < s.count → Some (get_or s.slots i d) ≡ slot_at (slots_of s) i
-slot_read s i d h =
-    let l = length_slots s in
-    ap (λ y. Some y) (sym (get_or-take s.count s.slots i d h)) ∙ sym (get_or-map (λ y. Some y) (slots_of s) i d None (omega arith))
-
-pub slot_past : (s : Slots) (i : ℕ) → s.count ≤ i → None ≡ slot_at (slots_of s) i
-slot_past s i h =
-    let l = length_slots s in
-    let m = length-map (slots_of s) (λ x. Some x) in
-    sym (get_or_past (map (λ x. Some x) (slots_of s)) i None (omega arith))

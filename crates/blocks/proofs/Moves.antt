@@ -1,6 +1,7 @@
 -- What adding to a block comes to. Assumes nothing.
-use Rattle.std.proofs.Common.{◌≡◌, ℕ, ◌<◌, ◌≤◌, Bool, true, false, cond, ltb, leb, length, Ok, Err, sym, refl, ap, ◌∙◌, arith, le-ltb, lt-ltb}
+use Rattle.std.proofs.Common.{◌≡◌, ℕ, ◌<◌, ◌≤◌, Bool, true, false, cond, ltb, leb, length, Ok, Err, Result, sym, refl, ap, ◌∙◌, subst, arith, le-ltb, lt-ltb}
 use Rattle.std.proofs.lemmas.Bool.Decides.{nat_tests}
+use Rattle.std.specs.Result.{IsErrAnd, MatchResult}
 use Rattle.operations.specs.declared.operation.Operation.{Operation}
 use Rattle.operations.specs.declared.raw.RawOperation.{RawOperation}
 use Rattle.operations.specs.declared.refusal.Refusal.{Refusal}
@@ -51,3 +52,8 @@ add_refused b q e h = by (names_exist q) refl
         let w : NoSuch ≡ e = cc in
         ap (λ n. cond n (cond (ltb (length b.entries) 64) (append b (typed_of q)) (Err BlockFull)) (Err NoSuch)) k
         ∙ ap (λ x. Err (topmost x (leb 64 (length b.entries)))) w
+
+-- where an error that `map_err` made comes from
+pub error_from : {T D E : Type 0} (r : Result T E) (s : Result T D) (P : E → D → Type 0) (d : D) → MatchResult r (λ x. s ≡ Ok x) (λ e. IsErrAnd s (P e)) → s ≡ Err d → (e : E) × (r ≡ Err e) × P e d
+error_from (Ok x) s P d m h = let y : ◌≡◌ {A = ℕ} 0 1 = cc in absurd (omega arith)
+error_from (Err e) s P d m h = (e, refl, subst (λ s. IsErrAnd s (P e)) h m)

@@ -1,8 +1,9 @@
 -- Where the operations of a block stand, once one is put elsewhere. Assumes nothing.
-use Rattle.std.proofs.Common.{◌≡◌, ℕ, zero, suc, ◌+◌, ◌<◌, ◌≤◌, Bool, true, false, ◌&&◌, ◌||◌, eqb, ltb, List, [], ◌∷◌, ◌++◌, map, length, get_or, drop, set, Some, None, Option, sym, refl, ap, ◌∙◌, subst, ap₂, ⊎_elim, arith, rules}
+use Rattle.std.proofs.Common.{◌≡◌, ℕ, zero, suc, ◌+◌, ◌<◌, Bool, true, false, not, ◌&&◌, ◌||◌, eqb, ltb, List, [], ◌∷◌, ◌++◌, map, length, get_or, set, Some, None, Option, sym, refl, ap, ◌∙◌, subst, ap₂, ⊎_elim, arith, rules}
 use native.Mathlib.Bridge.{le_prop}
-use Rattle.std.proofs.lemmas.List.{get_or-map, get_or-set_same, get_or-set_other, length-map, length-set, at_drop_more, at_drop_all}
-use Rattle.std.proofs.lemmas.Bool.{cases_eq, both_ways, not-true, or_parts}
+use Rattle.std.proofs.lemmas.List.{get_or-set_same, get_or-set_other, length-map}
+use Rattle.std.proofs.lemmas.Bool.{cases_eq, both_ways, eq-eqb, ne_eqb, not-true, or_parts}
+use Rattle.std.specs.List.{enumerate_from, list_any}
 use Rattle.std.proofs.lemmas.Bool.Decides.{nat_tests}
 use Rattle.blocks.specs.declared.position.Position.{Position}
 use Rattle.blocks.specs.declared.position.Entry.{Entry}
@@ -82,30 +83,25 @@ apart_set es i x p e h free a = let P : List Entry → Type 0 = Apart in subst P
 abbrev pub others : List Entry → ℕ → List (Option Position)
 others es i = set (map position_of es) i None
 
-length_others : (es : List Entry) (i : ℕ) → length (others es i) ≡ length es
-length_others es i = length-set (map position_of es) i None ∙ length-map es position_of
+-- whether an entry is none of that number, and at p
+abbrev pub other_at : ℕ → Position → ℕ × Entry → Bool
+other_at own p e = not (eqb e.0 own) && clash e.1.position (Some p)
 
-read_other : (es : List Entry) (i k : ℕ) (x : Entry) → k < length es → (k ≡ i → ⊥) → x ≡ get_or es k x → get_or (others es i) k None ≡ x.position
-read_other es i k x h ne e = get_or-set_other (map position_of es) i k None None ne ∙ get_or-map position_of es k x None h ∙ ap position_of (sym e)
+past_own : (es : List Entry) (own n : ℕ) (p : Position) → own < n → list_any (other_at own p) (enumerate_from n es) ≡ any_at p (map position_of es)
+past_own [] own n p h = refl
+past_own (e ∷ es) own n p h =
+    ap₂ (λ a b. a || b) (ap (λ t. not t && clash e.position (Some p)) (ne_eqb n own (λ e. omega arith))) (past_own es own (n + 1) p (omega arith))
 
-turn : (p : Position) (qs : List (Option Position)) (k : ℕ) (t : Bool) → k < length qs → clash (get_or qs k None) (Some p) ≡ t → any_at p (drop k qs) ≡ (t || any_at p (drop (k + 1) qs))
-turn p qs k t h e = at_drop_more (any_at p) qs k None h ∙ ap (λ b. b || any_at p (drop (k + 1) qs)) e
+from_own : (es : List Entry) (i own n : ℕ) (p : Position) → n + i ≡ own → list_any (other_at own p) (enumerate_from n es) ≡ any_at p (others es i)
+from_own [] i own n p h = refl
+from_own (e ∷ es) zero own n p h =
+    ap₂ (λ a b. a || b) (ap (λ t. not t && clash e.position (Some p)) (eq-eqb n own (omega arith))) (past_own es own (n + 1) p (omega arith))
+from_own (e ∷ es) (suc i) own n p h =
+    ap₂ (λ a b. a || b) (ap (λ t. not t && clash e.position (Some p)) (ne_eqb n own (λ e. omega arith))) (from_own es i own (n + 1) p (omega arith))
 
--- one turn of the search for another operation at p: at one that is there, at one that is not, at i itself, and at the end
-pub seen : (es : List Entry) (i k : ℕ) (x : Entry) (p : Position) (t : Bool) → k < length es → (k ≡ i → ⊥) → x ≡ get_or es k x → t ≡ clash x.position (Some p) → any_at p (drop k (others es i)) ≡ (t || any_at p (drop (k + 1) (others es i)))
-seen es i k x p t h ne r e =
-    let l = length_others es i in
-    turn p (others es i) k t (omega arith) (ap (λ q. clash q (Some p)) (read_other es i k x h ne r) ∙ sym e)
-
-pub passed : (es : List Entry) (i k : ℕ) (p : Position) → k < length es → k ≡ i → any_at p (drop k (others es i)) ≡ any_at p (drop (k + 1) (others es i))
-passed es i k p h e =
-    let l = length_others es i in
-    let m = length-map es position_of in
-    let at : get_or (others es i) i None ≡ None = get_or-set_same (map position_of es) i None None (omega arith) in
-    turn p (others es i) k false (omega arith) (ap (λ q. clash q (Some p)) (ap (λ n. get_or (others es i) n None) e ∙ at))
-
-pub ended : (es : List Entry) (i k : ℕ) (p : Position) → length es ≤ k → any_at p (drop k (others es i)) ≡ false
-ended es i k p h = let l = length_others es i in at_drop_all (any_at p) (others es i) k (omega arith)
+-- the search for another operation at p
+pub any_other : (es : List Entry) (own : ℕ) (p : Position) → list_any (other_at own p) (enumerate_from 0 es) ≡ occupied es own p
+any_other es own p = from_own es own own 0 p (omega arith)
 
 none_at : (p : Position) (qs : List (Option Position)) → any_at p qs ≡ false → (j : ℕ) → clash (get_or qs j None) (Some p) ≡ false
 none_at p [] e j = refl

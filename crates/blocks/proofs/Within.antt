@@ -1,19 +1,17 @@
 -- A step of one block, as a step of the whole set. Assumes nothing.
-use Rattle.std.proofs.Common.{◌≡◌, ℕ, zero, suc, ◌+◌, ◌<◌, cond, List, [], ◌∷◌, ◌++◌, length, get_or, set, replicate, Ok, Err, Result, sym, refl, ap, ◌∙◌, subst, ⊎_elim, arith, lt-ltb}
-use Rattle.std.proofs.lemmas.List.{map-set, map_push, get_or-map, set-get_or, length-map, length-replicate, replicate_more, get_or-set_same, get_or-set_other}
+use Rattle.std.proofs.Common.{◌≡◌, ℕ, zero, suc, ◌<◌, cond, List, [], ◌∷◌, length, get_or, set, replicate, Ok, Err, Result, sym, refl, ap, ap₂, ◌∙◌, subst, ⊎_elim, arith, lt-ltb}
+use Rattle.std.proofs.lemmas.List.{map-set, get_or-map, set-get_or, length-map, get_or-set_same, get_or-set_other}
 use Rattle.std.proofs.lemmas.Bool.{cases_eq}
+use Rattle.std.specs.List.{All}
 use Rattle.operations.specs.declared.refusal.Refusal.{Refusal}
 use Rattle.operations.specs.declared.refusal.Refusal.TheVariants.{NoSuch}
-use Rattle.blocks.specs.declared.description.Slot.{Slot}
-use Rattle.blocks.specs.declared.position.Entry.{Entry}
 use Rattle.blocks.specs.declared.block.Block.{Block}
 use Rattle.blocks.specs.declared.blocks.Blocks.{Blocks}
 use Rattle.blocks.specs.Steps.{Outcome, answer, after, Did}
 use Rattle.blocks.specs.Machine.{slots_of}
-use Rattle.blocks.specs.Entries.{AllFit, WellPlaced}
 use Rattle.blocks.specs.Exits.{goes_on}
 use Rattle.blocks.specs.Model.{Body, empty}
-use Rattle.blocks.specs.Calls.{State, body_at, put_back, in_block}
+use Rattle.blocks.specs.Calls.{State, put_back, in_block}
 use Rattle.blocks.specs.View.{body_of, bodies_of, BlocksFit, LastEnds}
 use Rattle.blocks.specs.Whole.{state_of}
 use Rattle.blocks.proofs.Keeps.{Good}
@@ -24,6 +22,9 @@ body_read bs n x h read = get_or-map body_of bs n x empty h ∙ ap body_of (sym 
 
 long : (B : Blocks) (n : ℕ) → n < 16 → n < length B.blocks.items
 long B n h = omega (arith, B.blocks.ok.0, B.sixteen)
+
+abbrev with_bodies : Blocks → List Body → State
+with_bodies B ys = record { description = B.description; bodies = ys }
 
 -- block n went from x to w and answered r, by that step
 module _ {X : Type 0} (B : Blocks) (n : ℕ) (x w : Block) (r : Result X Refusal) (step : Body → Outcome X Body) (below : n < 16) (read : x ≡ get_or B.blocks.items n x) (did : Did (body_of x) (body_of w) r (step (body_of x))) where
@@ -39,18 +40,15 @@ module _ {X : Type 0} (B : Blocks) (n : ℕ) (x w : Block) (r : Result X Refusal
   answer_back (Ok p) = refl
   answer_back (Err e) = refl
 
-  abbrev with_bodies : List Body → State
-  with_bodies ys = record { description = B.description; bodies = ys }
-
-  after_back : (o : Outcome X Body) → after (state_of B) (put_back (state_of B) n o) ≡ with_bodies (set (bodies_of B.blocks.items) n (after (body_of x) o))
+  after_back : (o : Outcome X Body) → after (state_of B) (put_back (state_of B) n o) ≡ with_bodies B (set (bodies_of B.blocks.items) n (after (body_of x) o))
   after_back (Ok p) = refl
-  after_back (Err e) = sym (ap with_bodies (ap (set (bodies_of B.blocks.items) n) (sym here) ∙ set-get_or (bodies_of B.blocks.items) n empty))
+  after_back (Err e) = sym (ap (with_bodies B) (ap (set (bodies_of B.blocks.items) n) (sym here) ∙ set-get_or (bodies_of B.blocks.items) n empty))
 
-  pub within : Did (state_of B) (with_bodies (bodies_of (set B.blocks.items n w))) r (in_block (state_of B) n step)
-  within = record {
+  once : Did (state_of B) (with_bodies B (bodies_of (set B.blocks.items n w))) r (in_block (state_of B) n step)
+  once = record {
     answered = did.answered ∙ sym (ap answer opened ∙ answer_back (step (body_of x)));
     left =
-        ap with_bodies (map-set body_of B.blocks.items n w ∙ ap (set (bodies_of B.blocks.items) n) did.left)
+        ap (with_bodies B) (map-set body_of B.blocks.items n w ∙ ap (set (bodies_of B.blocks.items) n) did.left)
         ∙ sym (ap (after (state_of B)) opened ∙ after_back (step (body_of x)));
   }
 
@@ -73,39 +71,27 @@ module _ {X : Type 0} (B : Blocks) (n : ℕ) (x w : Block) (r : Result X Refusal
       (λ (nq : k ≡ n → ⊥). subst R (sym (ap (λ l. get_or l k empty) m ∙ get_or-set_other (bodies_of B.blocks.items) n k (body_of w) empty nq)) (good_at k))
       (cases_eq k n)
 
-  pub within_good : ((b : Body) → Good (slots_of B.description.slots) n b → Good (slots_of B.description.slots) n (after b (step b))) → BlocksFit (slots_of B.description.slots) (set B.blocks.items n w) × (LastEnds (set B.blocks.items n w) × Unit {0})
-  within_good keeps = (λ k. (good_after keeps k).0, ((good_after keeps 15).1 refl, tt))
+  once_good : ((b : Body) → Good (slots_of B.description.slots) n b → Good (slots_of B.description.slots) n (after b (step b))) → BlocksFit (slots_of B.description.slots) (set B.blocks.items n w) × LastEnds (set B.blocks.items n w)
+  once_good keeps = (λ k. (good_after keeps k).0, (good_after keeps 15).1 refl)
+
+-- the same with the number m that the block was found by
+module _ {X : Type 0} (B : Blocks) (m n : ℕ) (same : m ≡ n) (x w : Block) (r : Result X Refusal) (step : Body → Outcome X Body) (below : n < 16) (read : x ≡ get_or B.blocks.items m x) (did : Did (body_of x) (body_of w) r (step (body_of x))) where
+  found : x ≡ get_or B.blocks.items n x
+  found = let P : ℕ → Type 0 = λ k. x ≡ get_or B.blocks.items k x in subst P same read
+
+  pub within : Did (state_of B) (with_bodies B (bodies_of (set B.blocks.items m w))) r (in_block (state_of B) n step)
+  within =
+      let P : ℕ → Type 0 = λ k. Did (state_of B) (with_bodies B (bodies_of (set B.blocks.items k w))) r (in_block (state_of B) n step) in
+      subst P (sym same) (once B n x w r step below found did)
+
+  pub within_good : ((b : Body) → Good (slots_of B.description.slots) n b → Good (slots_of B.description.slots) n (after b (step b))) → BlocksFit (slots_of B.description.slots) (set B.blocks.items m w) × LastEnds (set B.blocks.items m w)
+  within_good keeps =
+      let P : ℕ → Type 0 = λ k. BlocksFit (slots_of B.description.slots) (set B.blocks.items k w) × LastEnds (set B.blocks.items k w) in
+      subst P (sym same) (once_good B n x w r step below found did keeps)
 
 -- blocks that are all empty
-pub one_more : (bs : List Block) (x : Block) (n : ℕ) → bodies_of bs ≡ replicate n empty → body_of x ≡ empty → bodies_of (bs ++ x ∷ []) ≡ replicate (n + 1) empty
-one_more bs x n e f = map_push body_of bs x ∙ ap (λ m. m ++ body_of x ∷ []) e ∙ ap (λ b. replicate n empty ++ b ∷ []) f ∙ replicate_more n empty
-
-pub count : (bs : List Block) (n : ℕ) → bodies_of bs ≡ replicate n empty → length bs ≡ n
-count bs n e = sym (length-map bs body_of) ∙ ap length e ∙ length-replicate n empty
-
-all_empty : (n k : ℕ) → get_or (replicate n empty) k empty ≡ empty
-all_empty zero k = refl
-all_empty (suc n) zero = refl
-all_empty (suc n) (suc k) = all_empty n k
-
-pub empty_good : (slots : List Slot) (bs : List Block) (n : ℕ) → bodies_of bs ≡ replicate n empty → BlocksFit slots bs × (LastEnds bs × Unit {0})
-empty_good slots bs n e =
-    let at : (k : ℕ) → get_or (bodies_of bs) k empty ≡ empty = λ k. ap (λ m. get_or m k empty) e ∙ all_empty n k in
-    let P : Body → Type 0 = λ b. Good slots 15 b in
-    let g : Good slots 15 empty = (λ i. refl, λ _. refl) in
-    (λ k. (subst P (sym (at k)) g).0, ((subst P (sym (at 15)) g).1 refl, tt))
-
--- what is read of block n
-pub block_read : (B : Blocks) (n : ℕ) (x : Block) → n < 16 → x ≡ get_or B.blocks.items n x → body_of x ≡ body_at (state_of B) n
-block_read B n x h read = sym (body_read B.blocks.items n x (long B n h) read)
-
-pub well_placed : (B : Blocks) (n : ℕ) (x : Block) → body_of x ≡ body_at (state_of B) n → WellPlaced (slots_of B.description.slots) x.entries.items
-well_placed B n x e =
-    let P : Body → Type 0 = λ b. AllFit (slots_of B.description.slots) b.entries in
-    record { few = omega (arith, x.few, x.entries.ok.0); apart = x.apart; fit = subst P (sym e) (B.fit n) }
-
--- the operations of block n, as they are read
-pub entries_read : (B : Blocks) (n : ℕ) (x : Block) → n < 16 → body_of x ≡ body_at (state_of B) n → (es : List Entry) → es ≡ x.entries.items → (n < 16) × (es ≡ (body_at (state_of B) n).entries) × WellPlaced (slots_of B.description.slots) es
-entries_read B n x h e es is =
-    let P : List Entry → Type 0 = λ es. WellPlaced (slots_of B.description.slots) es in
-    (h, is ∙ ap (λ (b : Body). b.entries) e, subst P (sym is) (well_placed B n x e))
+pub bodies_empty : (bs : List Block) (n : ℕ) → All (λ b. body_of b ≡ empty) bs → length bs ≡ n → bodies_of bs ≡ replicate n empty
+bodies_empty [] zero a l = refl
+bodies_empty [] (suc n) a l = absurd (omega arith)
+bodies_empty (b ∷ bs) zero a l = absurd (omega arith)
+bodies_empty (b ∷ bs) (suc n) a l = ap₂ (λ x xs. x ∷ xs) (a 0 b (omega arith)) (bodies_empty bs n (λ k d h. a (suc k) d (omega arith)) (omega arith))

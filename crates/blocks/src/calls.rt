@@ -17,11 +17,7 @@ use std::alloc::{AllocError, Global};
 fn empty_blocks(heap: Global) -> Result<Vec<Block>, AllocError>
     ensures { IfOk result (λ v. bodies_of v.items ≡ replicate 16 empty) }
 {
-    let mut blocks = Vec::new(heap);
-    for _i in 0..BLOCKS {
-        blocks.push(Block::new(heap)?)?;
-    }
-    Ok(blocks)
+    (0..BLOCKS).map(|_| Block::new(heap)).try_collect(heap)
 }
 
 impl Blocks {
@@ -40,43 +36,36 @@ impl Blocks {
     pub fn add(&mut self, block: u8, operation: RawOperation) -> Result<u8, Refusal>
         ensures { Did (state_of self.old) (state_of self.new) result (add_call (state_of self.old) block operation) }
     {
-        if block >= BLOCKS {
-            return Err(Refusal::NoSuch);
-        }
-        self.blocks[block as usize].add(operation)
+        let i = usize::from(block);
+        let found = self.blocks.get_mut(i).ok_or(Refusal::NoSuch)?;
+        found.add(operation)
     }
 
     // Places an operation of the block, or moves it.
     pub fn place(&mut self, block: u8, operation: u8, cycle: u16, slot: u8) -> Result<(), Refusal>
         ensures { Did (state_of self.old) (state_of self.new) result (place_call (state_of self.old) block operation cycle slot) }
     {
-        if block >= BLOCKS {
-            return Err(Refusal::NoSuch);
-        }
-        self.blocks[block as usize].place(&self.description, operation, cycle, slot)
+        let i = usize::from(block);
+        let found = self.blocks.get_mut(i).ok_or(Refusal::NoSuch)?;
+        found.place(&self.description, operation, cycle, slot)
     }
 
     // Takes an operation of the block from its place.
     pub fn lift(&mut self, block: u8, operation: u8) -> Result<(), Refusal>
         ensures { Did (state_of self.old) (state_of self.new) result (lift_call (state_of self.old) block operation) }
     {
-        if block >= BLOCKS {
-            return Err(Refusal::NoSuch);
-        }
-        self.blocks[block as usize].lift(operation)
+        let i = usize::from(block);
+        let found = self.blocks.get_mut(i).ok_or(Refusal::NoSuch)?;
+        found.lift(operation)
     }
 
     // Sets where the block leads when it ends.
     pub fn exit(&mut self, block: u8, raw: RawExit) -> Result<(), Refusal>
         ensures { Did (state_of self.old) (state_of self.new) result (exit_call (state_of self.old) block raw) }
     {
-        if block >= BLOCKS {
-            return Err(Refusal::NoSuch);
-        }
-        let Some(exit) = raw.typed(block) else {
-            return Err(Refusal::NoSuch);
-        };
-        self.blocks[block as usize].leave_by(exit);
+        let i = usize::from(block);
+        let found = self.blocks.get_mut(i).ok_or(Refusal::NoSuch)?;
+        found.leave_by(raw.typed(block).ok_or(Refusal::NoSuch)?);
         Ok(())
     }
 }

@@ -12,18 +12,13 @@ const LONGEST: u8 = 31;
 // How many slots there may be.
 const SLOTS: u8 = 8;
 
-fn any(integer: bool, memory: bool, compare: bool) -> bool
-    ensures { result ≡ takes_some integer memory compare }
-{
-    integer || memory || compare
-}
-
 impl Slot {
     // A slot that takes these classes, if there is one among them.
     pub fn new(integer: bool, memory: bool, compare: bool) -> Option<Slot>
         ensures { result ≡ slot_taking integer memory compare }
     {
-        if any(integer, memory, compare) {
+        // No `then`: a closure that makes a slot would have to require this test once more.
+        if integer || memory || compare {
             Some(Slot {
                 integer,
                 memory,
@@ -62,7 +57,7 @@ impl Slots {
         if self.count >= SLOTS {
             return Err(Refusal::NoSuch);
         }
-        self.slots[self.count as usize] = slot;
+        self.slots[usize::from(self.count)] = slot;
         self.count += 1;
         Ok(())
     }
@@ -71,11 +66,9 @@ impl Slots {
     pub(crate) fn get(&self, slot: u8) -> Option<Slot>
         ensures { result ≡ slot_at (slots_of self.now) slot }
     {
-        if slot < self.count {
-            Some(self.slots[slot as usize])
-        } else {
-            None
-        }
+        self.slots[..usize::from(self.count)]
+            .get(usize::from(slot))
+            .copied()
     }
 }
 
@@ -96,10 +89,7 @@ impl Description {
     pub fn takes(&self, slot: u8, class: Class) -> bool
         ensures { result ≡ takes_class (slots_of self.now.slots) slot class }
     {
-        match self.slots.get(slot) {
-            Some(slot) => slot.serves(class),
-            None => false,
-        }
+        self.slots.get(slot).is_some_and(|slot| slot.serves(class))
     }
 
     // How long the result of an operation takes; a store has no result.

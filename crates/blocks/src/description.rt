@@ -11,6 +11,7 @@ pub struct Slot {
 }
 
 // The first `count` of `slots` are those of the machine, 1 to 8.
+// An array and a count: no heap is used here, and an `ArrayVec` is not `Copy`, as a description is that is handed out.
 #[derive(Clone, Copy)]
 pub struct Slots {
     pub slots: [Slot; 8],

@@ -15,6 +15,7 @@ impl BlockNumber {
     pub(crate) fn new(number: u8) -> Option<BlockNumber>
         ensures { result ≡ block_numbered number }
     {
+        // No `then`: a closure that makes a number would have to require this test once more.
         if number < BLOCKS {
             Some(BlockNumber { number })
         } else {
@@ -28,10 +29,7 @@ impl RawExit {
     fn goes_on(self) -> bool
         ensures { result ≡ raw_goes_on self }
     {
-        match self {
-            RawExit::Halt | RawExit::Goto(_) => false,
-            RawExit::Next | RawExit::If { .. } | RawExit::Loop(_) => true,
-        }
+        matches!(self, RawExit::Next | RawExit::If { .. } | RawExit::Loop(_))
     }
 
     // The exit, where there are the block and the register that it names.

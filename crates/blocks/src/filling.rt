@@ -10,7 +10,7 @@ use crate::block::Block;
 use crate::description::Description;
 use crate::exit::Exit;
 use crate::position::{Entry, Position};
-use operations::{Class, RawOperation, Refusal};
+use operations::{RawOperation, Refusal};
 use std::alloc::{AllocError, Global};
 
 // How many operations a block may have.
@@ -28,42 +28,21 @@ impl Position {
     }
 }
 
-// Where operation `i` is placed.
-fn position_at(entries: &[Entry], i: usize) -> Option<Position>
-    requires { i < length entries.now }
-    ensures { result ≡ placed entries.now i }
-{
-    entries[i].position
-}
-
-// The class of operation `i`.
-fn class_at(entries: &[Entry], i: usize) -> Class
-    requires { i < length entries.now }
-    ensures { result ≡ class_at entries.now i }
-{
-    entries[i].operation.class()
-}
-
 // Whether the entry is placed there.
 fn is_at(entry: &Entry, position: Position) -> bool
     ensures { result ≡ clash entry.now.position (Some position) }
 {
-    match entry.position {
-        Some(p) => p.cycle == position.cycle && p.slot == position.slot,
-        None => false,
-    }
+    entry.position == Some(position)
 }
 
 // Whether another operation than that of number `own` is placed there.
 fn occupied(entries: &[Entry], own: usize, position: Position) -> bool
     ensures { result ≡ occupied entries.now own position }
 {
-    for (k, entry) in entries.iter().enumerate() {
-        if k != own && is_at(entry, position) {
-            return true;
-        }
-    }
-    false
+    entries
+        .iter()
+        .enumerate()
+        .any(|(k, entry)| k != own && is_at(entry, position))
 }
 
 // The refusal of an operation for a block that may be full as well: the one whose row is above.
@@ -94,19 +73,15 @@ impl Block {
     {
         let count = self.entries.len();
         let full = count >= OPERATIONS;
-        match operation.typed() {
-            Err(refusal) => Err(topmost(refusal, full)),
-            Ok(operation) => {
-                if full {
-                    return Err(Refusal::BlockFull);
-                }
-                self.entries.push_reserved(Entry {
-                    operation,
-                    position: None,
-                });
-                Ok(count as u8)
-            }
+        let operation = operation.typed().map_err(|refusal| topmost(refusal, full))?;
+        if full {
+            return Err(Refusal::BlockFull);
         }
+        self.entries.push_reserved(Entry {
+            operation,
+            position: None,
+        });
+        Ok(count as u8)
     }
 
     // Puts operation `i` to a position that is free, or to none.
@@ -127,14 +102,15 @@ impl Block {
     ) -> Result<(), Refusal>
         ensures { Did (body_of self.old) (body_of self.new) result (place_step (slots_of description.now.slots) (body_of self.old) operation cycle slot) }
     {
-        let i = operation as usize;
-        if i >= self.entries.len() || slot >= description.slots.count {
+        let i = usize::from(operation);
+        let entry = self.entries.get(i).ok_or(Refusal::NoSuch)?;
+        if slot >= description.slots.count {
             return Err(Refusal::NoSuch);
         }
         if cycle >= CYCLES {
             return Err(Refusal::BeyondLimit);
         }
-        if !description.takes(slot, class_at(self.entries.as_slice(), i)) {
+        if !description.takes(slot, entry.operation.class()) {
             return Err(Refusal::ClassNotTaken);
         }
         let position = Position::at(cycle, slot);
@@ -149,13 +125,9 @@ impl Block {
     pub(crate) fn lift(&mut self, operation: u8) -> Result<(), Refusal>
         ensures { Did (body_of self.old) (body_of self.new) result (lift_step (body_of self.old) operation) }
     {
-        let i = operation as usize;
-        if i >= self.entries.len() {
-            return Err(Refusal::NoSuch);
-        }
-        let Some(_) = position_at(self.entries.as_slice(), i) else {
-            return Err(Refusal::Unplaced(operation));
-        };
+        let i = usize::from(operation);
+        let entry = self.entries.get(i).ok_or(Refusal::NoSuch)?;
+        entry.position.ok_or(Refusal::Unplaced(operation))?;
         self.put(i, None);
         Ok(())
     }

@@ -11,7 +11,6 @@ use crate::block::Block;
 use crate::blocks::Blocks;
 use crate::description::Description;
 use crate::exit::Exit;
-use crate::exits::BLOCKS;
 use crate::position::Entry;
 
 impl Blocks {
@@ -25,25 +24,20 @@ impl Blocks {
     fn block(&self, block: u8) -> Option<&Block>
         ensures { MatchOption result (16 ≤ block) (λ b. (block < 16) × (body_of b.now ≡ body_at (state_of self.now) block)) }
     {
-        if block >= BLOCKS {
-            return None;
-        }
-        Some(&self.blocks[block as usize])
+        self.blocks.get(usize::from(block))
     }
 
     // The operations of the block, in written order.
     pub fn entries(&self, block: u8) -> Option<&[Entry]>
         ensures { MatchOption result (16 ≤ block) (λ es. (block < 16) × (es.now ≡ (body_at (state_of self.now) block).entries) × WellPlaced (slots_of (state_of self.now).description.slots) es.now) }
     {
-        let found = self.block(block)?;
-        Some(found.entries.as_slice())
+        self.block(block).map(|found| found.entries.as_slice())
     }
 
     // Where the block leads when it ends.
     pub fn exit_of(&self, block: u8) -> Option<Exit>
         ensures { result ≡ option_map (λ b. b.exit) (block_at (state_of self.now) block) }
     {
-        let found = self.block(block)?;
-        Some(found.exit)
+        self.block(block).map(|found| found.exit)
     }
 }

@@ -8,10 +8,7 @@ use std::test::Fail;
 
 // The row of a refusal, or 0.
 fn row<T: Drop>(answer: Result<T, Refusal>) -> u8 {
-    match answer {
-        Ok(_) => 0,
-        Err(refusal) => refusal.number(),
-    }
+    answer.err().map_or(0, |refusal| refusal.number())
 }
 
 // A load to the register of that number.
@@ -63,18 +60,13 @@ fn describes(rt: HostRuntime) {
 
 // Sixteen empty blocks of that machine.
 fn blocks(rt: HostRuntime) -> Result<Blocks, Fail> {
-    match machine() {
-        Ok(machine) => Ok(Blocks::new(rt.alloc(), machine)?),
-        Err(_) => Err(Fail::new("no machine")),
-    }
+    let machine = machine().map_err(|_| Fail::new("no machine"))?;
+    Ok(Blocks::new(rt.alloc(), machine)?)
 }
 
 // How many operations the block has.
 fn count(blocks: &Blocks, block: u8) -> usize {
-    match blocks.entries(block) {
-        Some(entries) => entries.len(),
-        None => 0,
-    }
+    blocks.entries(block).map_or(0, |entries| entries.len())
 }
 
 // The cycle of the block's first operation, where it is placed.
@@ -91,10 +83,7 @@ fn adds(rt: HostRuntime) -> Result<(), Fail> {
     assert_eq!(rt; row(blocks.add(15, unfit())), 4);
     assert_eq!(rt; count(&blocks, 15), 0);
     for number in 0..64u8 {
-        match blocks.add(15, load(31, 31)) {
-            Ok(added) => assert_eq!(rt; added, number),
-            Err(_) => assert!(rt; false),
-        }
+        assert_eq!(rt; blocks.add(15, load(31, 31)).ok(), Some(number));
     }
     assert_eq!(rt; row(blocks.add(15, load(31, 31))), 3);
     assert_eq!(rt; row(blocks.add(15, unfit())), 3);

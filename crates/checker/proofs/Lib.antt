@@ -5,3 +5,4 @@ pub mod Shown
 pub mod Sight
 pub mod Soundness
 pub mod Rightness
+pub mod Searches

@@ -1,5 +1,5 @@
 -- The verdict on a block is right. Assumes nothing.
-use Rattle.std.proofs.Common.{◌≡◌, ℕ, ◌+◌, ◌<◌, ◌≤◌, List, length, take, None, Ok, Option, sym, refl, subst, arith}
+use Rattle.std.proofs.Common.{◌≡◌, ℕ, ◌+◌, ◌<◌, ◌≤◌, List, length, take, Some, None, Ok, Option, MatchOption, sym, refl, subst, arith}
 use Rattle.std.proofs.lemmas.List.{get_or-take, length-take-le}
 use Rattle.operations.specs.declared.refusal.Dependence.{Dependence}
 use Rattle.operations.specs.declared.refusal.Dependence.TheVariants.{Flow, Anti, Output, Memory}
@@ -25,7 +25,7 @@ use Rattle.checker.proofs.Shown.{shows}
 use Rattle.checker.proofs.Soundness.{sound_of, in_machine}
 
 -- kept dependences hold
-kept_holds : (k : Dependence) (p : Program) (s : Schedule) (x : Place) (i j : ℕ) → schedule.Kept p s → Depends k p x i j → Holds k p s i j
+pub kept_holds : (k : Dependence) (p : Program) (s : Schedule) (x : Place) (i j : ℕ) → schedule.Kept p s → Depends k p x i j → Holds k p s i j
 kept_holds Flow p s x i j kept d = let P : Place → Type 0 = λ y. schedule.Flow p y i j in kept.flow d.0.0 i j (subst P d.0.1 d.1)
 kept_holds Anti p s x i j kept d = let P : Place → Type 0 = λ y. schedule.Anti p y i j in kept.anti d.0.0 i j (subst P d.0.1 d.1)
 kept_holds Output p s x i j kept d = let P : Place → Type 0 = λ y. schedule.Output p y i j in kept.output d.0.0 i j (subst P d.0.1 d.1)
@@ -50,13 +50,13 @@ module _ (d : Description) (es : List Entry) (ps : List Placed) (long : length p
               subst P (sym (get_or-take n ps i o (omega (arith, l)))) (seen.each i o (omega (arith, l)));
         }
 
-    pub right_kept : AllKept (take n ps) (length (take n ps)) → Right d es Kept
+    right_kept : AllKept (take n ps) (length (take n ps)) → Right d es Kept
     right_kept all = record {
       kept = (λ _. (kept_is_always_same_lem (program_of d es) (schedule_of es) sound).0 (kept_from _ _ (take n ps) as_seen all), λ _. refl);
       shows = λ w e. violated_kept w (sym e);
     }
 
-    pub right_violated : (last : ℕ) → last + 1 ≡ length (slots_of d.slots) → (v : Violation) → Found last (take n ps) v → Right d es (Violated v)
+    right_violated : (last : ℕ) → last + 1 ≡ length (slots_of d.slots) → (v : Violation) → Found last (take n ps) v → Right d es (Violated v)
     right_violated last slots v f =
         let in_slots : (i : ℕ) → i < length es → (schedule_of es).slot i ≤ last =
         λ i h. let k = in_machine (slots_of d.slots) es i (well.fit i) (seen.placed i h) in omega arith in
@@ -73,7 +73,15 @@ module _ (d : Description) (es : List Entry) (ps : List Placed) (long : length p
               subst Q same h;
         }
 
-pub judged : (d : Description) (es : List Entry) (v : Verdict) → unplaced_lowest es ≡ None → Right d es v → Judged d es (Ok v)
+judged : (d : Description) (es : List Entry) (v : Verdict) → unplaced_lowest es ≡ None → Right d es v → Judged d es (Ok v)
 judged d es v e right =
     let P : Option ℕ → Type 0 = λ o. JudgedWith o d es (Ok v) in
     subst P (sym e) (v, refl, right)
+
+-- by what was found among the operations of the block
+pub judged_by : (d : Description) (es : List Entry) (ps : List Placed) → length ps ≡ 64 → WellPlaced (slots_of d.slots) es → SeenTo d es (length es) ps → unplaced_lowest es ≡ None →
+    (n : ℕ) → n ≡ length es → (last : ℕ) → last + 1 ≡ length (slots_of d.slots) → (o : Option Violation) (v : Verdict) →
+    MatchOption o (AllKept (take n ps) (length (take n ps))) (Found last (take n ps)) → MatchOption o (v ≡ Kept) (λ w. v ≡ Violated w) → Judged d es (Ok v)
+judged_by d es ps long well seen placed n whole last slots None v kept e = judged d es v placed (subst (Right d es) (sym e) (right_kept d es ps long well seen n whole kept))
+judged_by d es ps long well seen placed n whole last slots (Some w) v found e =
+    judged d es v placed (subst (Right d es) (sym e) (right_violated d es ps long well seen n whole last slots w found))

@@ -1,6 +1,8 @@
 -- The operations of a block, one more seen. Assumes nothing.
-use Rattle.std.proofs.Common.{◌≡◌, ℕ, zero, suc, ◌+◌, ◌<◌, true, false, cond, List, [], ◌∷◌, map, length, get_or, set, is_some, Some, None, sym, refl, ap, ◌∙◌, subst, add-zero, arith, below_more}
+use Rattle.std.proofs.Common.{◌≡◌, ℕ, zero, suc, ◌+◌, ◌<◌, true, false, cond, List, [], ◌∷◌, map, length, get_or, set, is_some, Some, None, Err, Result, MatchResult, sym, refl, ap, ◌∙◌, subst, add-zero, arith, below_more}
 use Rattle.std.proofs.lemmas.List.{get_or-map, get_or-set_same, get_or-set_other}
+use Rattle.operations.specs.declared.refusal.Refusal.{Refusal}
+use Rattle.operations.specs.declared.refusal.Refusal.TheVariants.{Unplaced}
 use Rattle.operations.specs.Access.{among, read_list, write_list, reads, writes}
 use Rattle.blocks.specs.declared.description.Description.{Description}
 use Rattle.blocks.specs.declared.position.Entry.{Entry}
@@ -58,3 +60,7 @@ none_from k (e ∷ es) all =
 
 pub none_unplaced : (es : List Entry) → ((m : ℕ) → m < length es → is_some (placed es m) ≡ true) → unplaced_lowest es ≡ None
 none_unplaced es all = none_from 0 es all
+
+-- the refusal that names it
+pub refused_unplaced : {T : Type 0} (P : T → Type 0) (es : List Entry) (r : Result T Refusal) (i : ℕ) → r ≡ Err (Unplaced i) → unplaced_lowest es ≡ Some i → MatchResult r P (λ e. (m : ℕ) × (e ≡ Unplaced m) × (unplaced_lowest es ≡ Some m))
+refused_unplaced P es r i e low = subst (λ r. MatchResult r P (λ e. (m : ℕ) × (e ≡ Unplaced m) × (unplaced_lowest es ≡ Some m))) (sym e) (i, refl, low)

@@ -79,6 +79,14 @@ PartKept part a b = (x : Register) → is_place (place.Register x) part ≡ true
 abbrev pub KeptBefore : List Placed → ℕ → ℕ → Type 0
 KeptBefore ps i j = (m : ℕ) (d : Placed) → m < i → PairKept (slice_index_or ps m d) (slice_index_or ps j d)
 
+-- the dependences of operation j on operation i hold
+pub record KeptAt (ps : List Placed) (i j : ℕ) : Type 0 where
+  pub each : (d : Placed) → PairKept (slice_index_or ps i d) (slice_index_or ps j d)
+
+-- the dependences of operation j on all before it hold
+pub record KeptFrom (ps : List Placed) (j : ℕ) : Type 0 where
+  pub before : KeptBefore ps j j
+
 -- all dependences among the operations below n hold
 abbrev pub AllKept : List Placed → ℕ → Type 0
 AllKept ps n = (j : ℕ) → j < n → KeptBefore ps j j

@@ -14,23 +14,16 @@ fn judge(description: &Description, entries: &[Entry]) -> Result<Verdict, Refusa
     requires { WellPlaced (slots_of description.now.slots) entries.now }
     ensures { Judged description.now entries.now result }
 {
-    let all = match all_placed(description, entries) {
-        Ok(all) => all,
-        Err(lowest) => return Err(Refusal::Unplaced(lowest)),
-    };
+    let all = all_placed(description, entries)?;
     let last = description.slots.count - 1;
-    match first_broken(&all[0..entries.len()], last) {
-        Some(violation) => Ok(Verdict::Violated(violation)),
-        None => Ok(Verdict::Kept),
-    }
+    let found = first_broken(&all[..entries.len()], last);
+    Ok(found.map_or(Verdict::Kept, Verdict::Violated))
 }
 
 // Kept, or a violated dependence. Refused where there is no such block, or an operation of it is not placed.
 pub fn check(blocks: &Blocks, block: u8) -> Result<Verdict, Refusal>
     ensures { Checked (state_of blocks.now) block result }
 {
-    let Some(entries) = blocks.entries(block) else {
-        return Err(Refusal::NoSuch);
-    };
+    let entries = blocks.entries(block).ok_or(Refusal::NoSuch)?;
     judge(&blocks.description(), entries)
 }

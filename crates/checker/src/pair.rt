@@ -1,6 +1,8 @@
 // The first dependence that a pair of placed operations breaks.
-ghost use Rattle.checker.specs.Pairs.{Unbroken, Breaks, PartKept, PairKept, parts_of};
+ghost use Rattle.checker.specs.Pairs.{Unbroken, Breaks, PartKept, PairKept, parts_of, broken};
 ghost use Rattle.std.specs.Prelude.{◌≡◌, MatchOption};
+ghost use Rattle.std.specs.Bool.{then_some};
+ghost use Rattle.operations.specs.declared.refusal.Dependence.TheVariants.{Memory};
 
 use crate::dependence::broken;
 use crate::placed::Placed;
@@ -32,17 +34,11 @@ pub(crate) struct Break {
 fn at_part(part: Option<Place>, earlier: &Placed, later: &Placed) -> Option<Break>
     ensures { MatchOption result (PartKept part earlier.now later.now) (λ k. Breaks k.dependence k.place earlier.now later.now) }
 {
-    let Some(place) = part else {
-        return None;
-    };
-    match place {
-        Place::Register(x) => match at_register(x, earlier, later) {
-            Some(dependence) => Some(Break {
-                dependence,
-                place: Place::Register(x),
-            }),
-            None => None,
-        },
+    match part? {
+        Place::Register(x) => Some(Break {
+            dependence: at_register(x, earlier, later)?,
+            place: Place::Register(x),
+        }),
         Place::Memory => None,
     }
 }
@@ -62,21 +58,20 @@ fn parts(a: &Placed) -> [Option<Place>; 7]
     ]
 }
 
+fn in_memory(earlier: &Placed, later: &Placed) -> Option<Break>
+    ensures { result ≡ then_some (broken Memory Place.Memory earlier.now later.now) (record { dependence = Memory; place = Place.Memory }) }
+{
+    broken(Dependence::Memory, Place::Memory, earlier, later).then_some(Break {
+        dependence: Dependence::Memory,
+        place: Place::Memory,
+    })
+}
+
 // A dependence of `later` on `earlier` that is broken, where there is one.
 pub(crate) fn pair(earlier: &Placed, later: &Placed) -> Option<Break>
     ensures { MatchOption result (PairKept earlier.now later.now) (λ k. Breaks k.dependence k.place earlier.now later.now) }
 {
     let parts = parts(earlier);
-    for i in 0..7usize {
-        if let Some(found) = at_part(parts[i], earlier, later) {
-            return Some(found);
-        }
-    }
-    if broken(Dependence::Memory, Place::Memory, earlier, later) {
-        return Some(Break {
-            dependence: Dependence::Memory,
-            place: Place::Memory,
-        });
-    }
-    None
+    let found = parts.iter().find_map(|&part| at_part(part, earlier, later));
+    found.or_else(|| in_memory(earlier, later))
 }

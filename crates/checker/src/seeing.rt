@@ -1,44 +1,31 @@
 // The operations of a block, as check sees them.
-ghost use Rattle.std.specs.Prelude.{◌≡◌, ◌≤◌, length, Some, None, MatchOption, MatchResult};
+ghost use Rattle.std.specs.Prelude.{◌≡◌, ℕ, ◌≤◌, length, Some, None, MatchOption, MatchResult};
 ghost use Rattle.blocks.specs.Entries.{unplaced_lowest};
 ghost use Rattle.checker.specs.Seen.{Sees, SeenTo};
 
 use crate::placed::Placed;
 use blocks::{Description, Entry};
-use operations::{Reads, Writes};
+use operations::{Reads, Refusal, Writes};
 
 // The operation of the entry, where it is placed.
 fn placed(description: &Description, entry: &Entry) -> Option<Placed>
     ensures { MatchOption result (entry.now.position ≡ None) (λ a. Sees description.now entry.now a) }
 {
-    let Some(position) = entry.position else {
-        return None;
-    };
-    let reads = entry.operation.reads();
-    let writes = entry.operation.writes();
-    let cycle = position.cycle;
-    let slot = position.slot;
-    match description.latency(&entry.operation) {
-        Some(bounds) => Some(Placed {
-            reads,
-            writes,
-            cycle,
-            slot,
-            shortest: bounds.shortest as u16,
-            longest: bounds.longest as u16,
-        }),
-        None => Some(Placed {
-            reads,
-            writes,
-            cycle,
-            slot,
-            shortest: 1,
-            longest: 1,
-        }),
-    }
+    let position = entry.position?;
+    let (shortest, longest) = description
+        .latency(&entry.operation)
+        .map_or((1, 1), |bounds| (bounds.shortest, bounds.longest));
+    Some(Placed {
+        reads: entry.operation.reads(),
+        writes: entry.operation.writes(),
+        cycle: position.cycle,
+        slot: position.slot,
+        shortest: u16::from(shortest),
+        longest: u16::from(longest),
+    })
 }
 
-// Stands where there is no operation.
+// Stands where there is no operation: check uses no heap, so that a fixed array holds them, the first as many as the block has.
 fn nothing() -> Placed {
     Placed {
         reads: Reads {
@@ -60,18 +47,18 @@ fn nothing() -> Placed {
 }
 
 // All operations of a block, or the lowest that is not placed.
-pub(crate) fn all_placed(description: &Description, entries: &[Entry]) -> Result<[Placed; 64], u8>
+pub(crate) fn all_placed(
+    description: &Description,
+    entries: &[Entry],
+) -> Result<[Placed; 64], Refusal>
     requires { length entries.now ≤ 64 }
     ensures { MatchResult result
         (λ ps. (length ps ≡ 64) × (unplaced_lowest entries.now ≡ None) × SeenTo description.now entries.now (length entries.now) ps)
-        (λ i. unplaced_lowest entries.now ≡ Some i) }
+        (λ e. (i : ℕ) × (e ≡ Refusal.Unplaced i) × (unplaced_lowest entries.now ≡ Some i)) }
 {
     let mut all = [nothing(); 64];
-    for i in 0..entries.len() {
-        let Some(operation) = placed(description, &entries[i]) else {
-            return Err(i as u8);
-        };
-        all[i] = operation;
+    for (i, entry) in entries.iter().enumerate() {
+        all[i] = placed(description, entry).ok_or(Refusal::Unplaced(i as u8))?;
     }
     Ok(all)
 }

@@ -2,22 +2,16 @@
 ghost use Rattle.histories.specs.Examples.{WrittenExample, ScheduledExample, SerialIsKept};
 
 // Four operations in written order.
-pub fn written_example() -> u8
+pub fn written_example()
     ensures { WrittenExample }
-{
-    0
-}
+{}
 
 // The same four in a schedule that breaks their dependences.
-pub fn scheduled_example() -> u8
+pub fn scheduled_example()
     ensures { ScheduledExample }
-{
-    0
-}
+{}
 
 // One operation after the other keeps every dependence.
-pub fn serial_is_kept() -> u8
+pub fn serial_is_kept()
     ensures { SerialIsKept }
-{
-    0
-}
+{}

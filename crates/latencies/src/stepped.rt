@@ -24,7 +24,8 @@ impl Latencies for Stepped {
     ghost loan = { λ _. [] };
 
     fn ask(&self, operation: u8, bounds: Bounds) -> u8 {
-        let many = (bounds.longest - bounds.shortest) as u64 + 1;
+        let many = u64::from(bounds.longest - bounds.shortest) + 1;
+        // `as`, for of a number behind a reference `u64::from` does not show that it is below 2^32.
         let step = (self.turns as u64 + operation as u64) % many;
         bounds.shortest + step as u8
     }

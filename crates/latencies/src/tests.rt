@@ -8,10 +8,7 @@ use std::test::Fail;
 const LAST: u32 = 4294967295;
 
 fn between(shortest: u8, longest: u8) -> Result<Bounds, Fail> {
-    let Ok(bounds) = Bounds::new(shortest, longest) else {
-        return Err(Fail::new("there are such bounds"));
-    };
-    Ok(bounds)
+    Bounds::new(shortest, longest).map_err(|_| Fail::new("there are such bounds"))
 }
 
 // One turn, and what is answered after it.

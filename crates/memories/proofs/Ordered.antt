@@ -1,18 +1,22 @@
-use Rattle.std.proofs.Common.{◌≡◌, ℕ, ◌+◌, ◌-◌, ◌/◌, ◌%◌, ◌<◌, ◌≤◌, Bool, true, false, cond, ◌&&◌, ◌||◌, eqb, ltb, leb, List, [], ◌∷◌, length, get_or, drop, Some, None, Option, sym, refl, ap, ◌∙◌, arith}
-use Rattle.std.proofs.lemmas.List.{drop_more}
-use Rattle.std.proofs.lemmas.Bool.{and_parts, eqb-true, ltb-true, leb-true, lt-ltb}
+use Rattle.std.proofs.Common.{◌≡◌, ℕ, ◌+◌, ◌-◌, ◌/◌, ◌%◌, ◌<◌, ◌≤◌, Bool, true, false, cond, ◌&&◌, ◌||◌, eqb, ltb, leb, List, [], ◌∷◌, is_some, Some, None, Option, sym, refl, ap, ◌∙◌, arith}
+use Rattle.std.proofs.lemmas.Bool.{and_parts, eqb-true, ltb-true, leb-true, leb-false, le-leb, lt-ltb}
+use Rattle.std.specs.Option.{option_and_then}
+use Rattle.memories.proofs.Totals.{total}
 use Rattle.memories.specs.declared.section.Section.{Section}
 use Rattle.memories.specs.Rules.{right}
-use Rattle.memories.specs.Sections.{in_order, word_count, covered, holds_word, place, under, index, there}
+use Rattle.memories.specs.Sections.{end_after, in_order, word_count, covered, holds_word, place, under, index, there}
 
-pub order_at : (low : ℕ) (ss : List Section) (i : ℕ) (d : Section) (b : Bool) → i < length ss → (right (get_or ss i d) && leb low (get_or ss i d).offset) ≡ b → in_order low (drop i ss) ≡ (b && in_order ((get_or ss i d).offset + (get_or ss i d).length) (drop (i + 1) ss))
-order_at low ss i d b h e =
-    let s = get_or ss i d in
-    ap (in_order low) (drop_more ss i d h)
-    ∙ ap (λ x. x && in_order (s.offset + s.length) (drop (i + 1) ss)) e
+abbrev pub follows : ℕ → Section → Option ℕ
+follows low s = end_after s low
 
-pub count_at : (ss : List Section) (i : ℕ) (d : Section) → i < length ss → word_count (drop i ss) ≡ (get_or ss i d).length / 4 + word_count (drop (i + 1) ss)
-count_at ss i d h = ap word_count (drop_more ss i d h)
+pub follow_all : (ss : List Section) (low : ℕ) → is_some (total follows low ss) ≡ in_order low ss
+follow_all [] low = refl
+follow_all (s ∷ ss) low = by (right s && leb low s.offset) (follow_all ss (s.offset + s.length))
+  where
+    by : (t : Bool) → is_some (total follows (s.offset + s.length) ss) ≡ in_order (s.offset + s.length) ss →
+        is_some (option_and_then (λ d. total follows d ss) (cond t (Some (s.offset + s.length)) None)) ≡ (t && in_order (s.offset + s.length) ss)
+    by true rest = rest
+    by false rest = refl
 
 pub right_parts : (o l : ℕ) → (eqb (o % 4) 0 && eqb (l % 4) 0 && ltb 0 l && leb (o + l) 4294967296) ≡ true → (o % 4 ≡ 0) × ((l % 4 ≡ 0) × (o + l ≤ 4294967296))
 right_parts o l e = grind arith
@@ -27,11 +31,18 @@ less c w n h = grind arith
 taken_off : (c w n : ℕ) → c ≤ n → leb w (n - c) ≡ leb (c + w) n
 taken_off c w n h = grind arith
 
-pub count_past : (ss : List Section) (i : ℕ) (d : Section) (n : ℕ) → i < length ss → n < (get_or ss i d).length / 4 → leb (word_count (drop i ss)) n ≡ false
-count_past ss i d n h l = ap (λ x. leb x n) (count_at ss i d h) ∙ less ((get_or ss i d).length / 4) (word_count (drop (i + 1) ss)) n l
+-- what is left of n words once a section has its own
+abbrev pub leaves : ℕ → Section → Option ℕ
+leaves n s = cond (leb (s.length / 4) n) (Some (n - s.length / 4)) None
 
-pub count_next : (ss : List Section) (i : ℕ) (d : Section) (n : ℕ) → i < length ss → (get_or ss i d).length / 4 ≤ n → leb (word_count (drop (i + 1) ss)) (n - (get_or ss i d).length / 4) ≡ leb (word_count (drop i ss)) n
-count_next ss i d n h l = taken_off ((get_or ss i d).length / 4) (word_count (drop (i + 1) ss)) n l ∙ sym (ap (λ x. leb x n) (count_at ss i d h))
+pub leaves_all : (ss : List Section) (n : ℕ) → is_some (total leaves n ss) ≡ leb (word_count ss) n
+leaves_all [] n = sym (le-leb 0 n (omega arith))
+leaves_all (s ∷ ss) n = by (leb (s.length / 4) n) refl (leaves_all ss (n - s.length / 4))
+  where
+    by : (t : Bool) → leb (s.length / 4) n ≡ t → is_some (total leaves (n - s.length / 4) ss) ≡ leb (word_count ss) (n - s.length / 4) →
+        is_some (option_and_then (λ d. total leaves d ss) (cond t (Some (n - s.length / 4)) None)) ≡ leb (s.length / 4 + word_count ss) n
+    by true e rest = rest ∙ taken_off (s.length / 4) (word_count ss) n (leb-true (s.length / 4) n e)
+    by false e rest = sym (less (s.length / 4) (word_count ss) n (leb-false (s.length / 4) n e))
 
 -- what is packed within the words is what the sections cover
 covers_by : (t : Bool) (s : Section) (base n w : ℕ) (o : Option ℕ) (r : Bool) → holds_word s w ≡ t → base + s.length / 4 ≤ n → there (under n o) ≡ r → there (under n (cond t (Some (base + (w - s.offset / 4))) o)) ≡ (t || r)

@@ -2,6 +2,10 @@ use Rattle.std.specs.Prelude.{ℕ, ◌+◌, ◌-◌, ◌/◌, ◌%◌, Bool, tru
 use Rattle.memories.specs.declared.section.Section.{Section}
 use Rattle.memories.specs.Rules.{inside, right}
 
+-- where a section ends, if it is right, and none before low
+abbrev pub end_after : Section → (low : ℕ) → Option ℕ
+end_after s low = cond (right s && nat_le low s.offset) (Some (s.offset + s.length)) None
+
 -- sorted and not overlapping, none before low
 abbrev pub in_order : (low : ℕ) → List Section → Bool
 in_order low [] = true

@@ -7,7 +7,7 @@ use crate::section::Section;
 fn holds_word(s: &Section, word: u32) -> bool
     ensures { result ≡ holds_word s.now word }
 {
-    s.offset / 4 <= word && ((word - s.offset / 4) as u64) < s.length / 4
+    s.offset / 4 <= word && u64::from(word - s.offset / 4) < s.length / 4
 }
 
 // The place among `room` words of the word at an address.
@@ -19,6 +19,7 @@ pub fn find(sections: &[Section], room: usize, address: u32) -> Option<usize>
         return None;
     }
     let word = address / 4;
+    // A loop, for the base is wanted where the search ends, and of a closure that keeps one a proof knows nothing.
     let mut base: usize = 0;
     for s in sections {
         if holds_word(s, word) {

@@ -14,7 +14,7 @@ impl Section {
     pub(crate) fn holds(self, address: u32) -> bool
         ensures { result ≡ inside self address }
     {
-        self.offset <= address && ((address - self.offset) as u64) < self.length
+        self.offset <= address && u64::from(address - self.offset) < self.length
     }
 
     // Whether it is whole words, at least one, that end at 2^32 or before.
@@ -24,6 +24,6 @@ impl Section {
         self.offset % 4 == 0
             && self.length % 4 == 0
             && self.length > 0
-            && self.length <= 4294967296 - self.offset as u64
+            && self.length <= 4294967296 - u64::from(self.offset)
     }
 }

@@ -42,19 +42,15 @@ impl<'s, 'w> Memory for Sectioned<'s, 'w> {
     ghost loan = { λ m. m.words.ghost_name ∷ [] };
 
     fn load(&self, address: u32) -> Result<u32, Refusal> {
-        match find(self.sections, self.words.len(), address) {
-            Some(place) => Ok(self.words[place]),
-            None => Err(Refusal::NoSuchWord),
-        }
+        let found = find(self.sections, self.words.len(), address);
+        let place = found.ok_or(Refusal::NoSuchWord)?;
+        Ok(self.words[place])
     }
 
     fn store(&mut self, address: u32, value: u32) -> Result<(), Refusal> {
-        match find(self.sections, self.words.len(), address) {
-            Some(place) => {
-                self.words[place] = value;
-                Ok(())
-            }
-            None => Err(Refusal::NoSuchWord),
-        }
+        let found = find(self.sections, self.words.len(), address);
+        let place = found.ok_or(Refusal::NoSuchWord)?;
+        self.words[place] = value;
+        Ok(())
     }
 }

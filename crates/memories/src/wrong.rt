@@ -4,7 +4,8 @@ ghost use Rattle.operations.specs.declared.refusal.Refusal.TheVariants.{WrongSec
 
 use operations::Refusal;
 
-// With what was handed in. An enum that holds a lent slice cannot hold a `Refusal` beside it: this stands for that case of it.
+// With what was handed in, as `AllocFailed` has it. A bare `Refusal` would let it go, and that a lent slice is then unaltered
+// (`LendsIfOk`) is not proved of a body that puts the slice into a struct.
 #[derive(Drop)]
 pub struct WrongSections<T> {
     pub back: T,

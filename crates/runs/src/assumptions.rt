@@ -2,10 +2,8 @@
 ghost use Rattle.runs.specs.Assumptions.{MarksWithinAccesses, MarksWithinRegisters, SerialRunsAsWritten};
 
 // Marks keep to the accesses of their operations and to their registers; one operation after the other runs as written.
-pub fn assumptions_are_met() -> u8
+pub fn assumptions_are_met()
     ensures accesses { MarksWithinAccesses }
     ensures registers { MarksWithinRegisters }
     ensures serial { SerialRunsAsWritten }
-{
-    0
-}
+{}

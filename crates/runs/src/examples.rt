@@ -2,9 +2,7 @@
 ghost use Rattle.runs.specs.Examples.{QuickRun, SlowRun};
 
 // One schedule at two timings: a result that lands too early is read.
-pub fn example_runs() -> u8
+pub fn example_runs()
     ensures slow { SlowRun }
     ensures quick { QuickRun }
-{
-    0
-}
+{}

@@ -5,13 +5,11 @@ use Rattle.std.proofs.lemmas.List.{get_or-map}
 use Rattle.std.proofs.lemmas.Bool.{false≢true, not-true, leb-true, ltb-true, eqb-true, and_parts, or_parts}
 use Rattle.registers.specs.declared.register.Place.{Place}
 use Rattle.registers.specs.declared.register.Place.TheVariants as place
-use Rattle.operations.specs.declared.refusal.Dependence.{Dependence}
 use Rattle.operations.specs.declared.refusal.Dependence.TheVariants.{Flow, Anti, Output, Memory}
 use Rattle.operations.specs.declared.refusal.Refusal.{Refusal}
 use Rattle.operations.specs.declared.refusal.Violation.{Violation}
 use Rattle.operations.specs.Access.{reads_of, writes_of}
-use Rattle.histories.specs.Schedule as schedule
-use Rattle.histories.specs.Schedule.{Program, Schedule, Sound, AlwaysSame}
+use Rattle.histories.specs.Schedule.{Sound, AlwaysSame}
 use Rattle.histories.proofs.Dependences.{kept_is_always_same_lem}
 use Rattle.blocks.specs.declared.description.Bounds.{Bounds}
 use Rattle.blocks.specs.declared.description.Description.{Description}
@@ -24,7 +22,8 @@ use Rattle.checker.specs.declared.placed.Placed.{Placed}
 use Rattle.checker.specs.Programs.{shortest_in, longest_in, program_of, schedule_of}
 use Rattle.checker.specs.Pairs.{broken, least_for, of_registers, is_register, Breaks, PairKept, PartKept, parts_of, AllKept, Found}
 use Rattle.checker.specs.Seen.{Tied, Seen}
-use Rattle.checker.specs.Verdicts.{Depends, Holds, Shows}
+use Rattle.checker.specs.Verdicts.{Shows}
+use Rattle.checker.proofs.Rightness.{kept_holds}
 use Rattle.checker.proofs.Linked.{kept_from}
 use Rattle.checker.proofs.Parts.{part_kept, pair_kept}
 use Rattle.checker.proofs.Shown.{shows}
@@ -76,7 +75,7 @@ part_sound a b (Some (place.Register y)) t x e =
 pair_sound : (a b : Placed) → pair_test a b ≡ true → PairKept a b
 pair_sound a b t =
     let p = and_parts (every (part_test a b) (parts_of a)) _ t in
-    pair_kept a b (parts_of a) 7 refl (lit≤ tt) (λ m h. part_sound a b (get_or (parts_of a) m None) (every_at (part_test a b) (parts_of a) m None h p.0)) (not-true _ p.1)
+    pair_kept a b (λ m d h. part_sound a b (get_or (parts_of a) m d) (every_at (part_test a b) (parts_of a) m d h p.0)) (not-true _ p.1)
 
 pairs_sound : (ps : List Placed) → pairs_test ps ≡ true → AllKept ps (length ps)
 pairs_sound [] t j h m d l = absurd (omega arith)
@@ -182,13 +181,6 @@ found_sound last ps v t =
       breaks = λ d. (between_sound last v _ _ (at d)).0;
       least = λ d. (between_sound last v _ _ (at d)).1;
     }
-
--- kept dependences hold
-kept_holds : (k : Dependence) (p : Program) (s : Schedule) (x : Place) (i j : ℕ) → schedule.Kept p s → Depends k p x i j → Holds k p s i j
-kept_holds Flow p s x i j kept d = let P : Place → Type 0 = λ y. schedule.Flow p y i j in kept.flow d.0.0 i j (subst P d.0.1 d.1)
-kept_holds Anti p s x i j kept d = let P : Place → Type 0 = λ y. schedule.Anti p y i j in kept.anti d.0.0 i j (subst P d.0.1 d.1)
-kept_holds Output p s x i j kept d = let P : Place → Type 0 = λ y. schedule.Output p y i j in kept.output d.0.0 i j (subst P d.0.1 d.1)
-kept_holds Memory p s x i j kept d = kept.in_memory i j d.1
 
 module _ (d : Description) (es : List Entry) (well : well_test (slots_of d.slots) es ≡ true) where
   parts : (ltb 0 (length es) ≡ true) × (leb (length es) 64 ≡ true) × (every (λ e. is_some e.position) es ≡ true) × (apart_test (map position_of es) ≡ true) × (every (fits_slot (slots_of d.slots)) es ≡ true)

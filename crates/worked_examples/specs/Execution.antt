@@ -19,15 +19,18 @@ use Rattle.operations.specs.declared.operation.Source.TheVariants as source
 use Rattle.worked_examples.specs.declared.state.State.{State}
 
 abbrev pub cleared : State
-cleared = record { words = replicate 32 0; rotating_words = replicate 32 0; bits = replicate 32 false; rotating_bits = replicate 32 false }
+cleared = record {
+  words = record { fixed = replicate 32 0; rotating = replicate 32 0 };
+  bits = record { fixed = replicate 32 false; rotating = replicate 32 false };
+}
 
 abbrev word_cell : State → General → ℕ
-word_cell s (general.TheVariants.Static n) = slice_index s.words n.number
-word_cell s (general.TheVariants.Rotating n) = slice_index s.rotating_words n.number
+word_cell s (general.TheVariants.Static n) = slice_index s.words.fixed n.number
+word_cell s (general.TheVariants.Rotating n) = slice_index s.words.rotating n.number
 
 abbrev bit_cell : State → Predicate → Bool
-bit_cell s (predicate.TheVariants.Static n) = slice_index_or s.bits n.number false
-bit_cell s (predicate.TheVariants.Rotating n) = slice_index_or s.rotating_bits n.number false
+bit_cell s (predicate.TheVariants.Static n) = slice_index_or s.bits.fixed n.number false
+bit_cell s (predicate.TheVariants.Rotating n) = slice_index_or s.bits.rotating n.number false
 
 -- what a register reads: its constant, or what it holds
 abbrev pub word_in : State → General → ℕ
@@ -54,7 +57,7 @@ writes_in (effect.Store a v) = (None, None)
 -- after a write
 abbrev pub applied : State → Option Write → State
 applied s None = s
-applied s (Some (Word (general.TheVariants.Static n) v)) = record { words = slice_set s.words n.number v; rotating_words = s.rotating_words; bits = s.bits; rotating_bits = s.rotating_bits }
-applied s (Some (Word (general.TheVariants.Rotating n) v)) = record { words = s.words; rotating_words = slice_set s.rotating_words n.number v; bits = s.bits; rotating_bits = s.rotating_bits }
-applied s (Some (Bit (predicate.TheVariants.Static n) b)) = record { words = s.words; rotating_words = s.rotating_words; bits = slice_set s.bits n.number b; rotating_bits = s.rotating_bits }
-applied s (Some (Bit (predicate.TheVariants.Rotating n) b)) = record { words = s.words; rotating_words = s.rotating_words; bits = s.bits; rotating_bits = slice_set s.rotating_bits n.number b }
+applied s (Some (Word (general.TheVariants.Static n) v)) = record s { words = record s.words { fixed = slice_set s.words.fixed n.number v } }
+applied s (Some (Word (general.TheVariants.Rotating n) v)) = record s { words = record s.words { rotating = slice_set s.words.rotating n.number v } }
+applied s (Some (Bit (predicate.TheVariants.Static n) b)) = record s { bits = record s.bits { fixed = slice_set s.bits.fixed n.number b } }
+applied s (Some (Bit (predicate.TheVariants.Rotating n) b)) = record s { bits = record s.bits { rotating = slice_set s.bits.rotating n.number b } }

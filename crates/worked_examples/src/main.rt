@@ -26,19 +26,14 @@ fn print_write(rt: &HostRuntime, write: Write) -> io::Result<()> {
 
 // What the destinations got: `p2 = 1`, `p2 = 1, p3 = 0` or `nothing`.
 fn print_writes(rt: &HostRuntime, first: Option<Write>, second: Option<Write>) -> io::Result<()> {
-    let Some(a) = first else {
-        return match second {
-            Some(b) => print_write(rt, b),
-            None => print!(rt; "nothing"),
-        };
-    };
-    print_write(rt, a)?;
-    match second {
-        Some(b) => {
+    match (first, second) {
+        (Some(a), Some(b)) => {
+            print_write(rt, a)?;
             print!(rt; ", ")?;
             print_write(rt, b)
         }
-        None => Ok(()),
+        (Some(only), None) | (None, Some(only)) => print_write(rt, only),
+        (None, None) => print!(rt; "nothing"),
     }
 }
 
@@ -63,16 +58,16 @@ fn reduce(rt: &HostRuntime, a: i32, b: i32, c: i32, d: i32) -> io::Result<()> {
         "p2 = (a < b) or not (c > d) or (a < c) or (b > d) for a = {a}, b = {b}, c = {c}, d = {d}"
     )?;
     let mut state = State::new();
-    state.words[1] = a.cast_unsigned();
-    state.words[2] = b.cast_unsigned();
-    state.words[3] = c.cast_unsigned();
-    state.words[4] = d.cast_unsigned();
+    state.words.fixed[1] = a.cast_unsigned();
+    state.words.fixed[2] = b.cast_unsigned();
+    state.words.fixed[3] = c.cast_unsigned();
+    state.words.fixed[4] = d.cast_unsigned();
     for raw in examples::or_reduction() {
         work(rt, &mut state, raw)?;
     }
     work(rt, &mut state, examples::copy_predicate())?;
-    let p = u8::from(state.bits[2]);
-    let copy = u8::from(state.bits[3]);
+    let p = u8::from(state.bits.fixed[2]);
+    let copy = u8::from(state.bits.fixed[3]);
     println!(rt; "  result: p2 = {p}, copied to p3 = {copy}")
 }
 
@@ -85,12 +80,12 @@ fn set_out(rt: &HostRuntime, offset: i32) -> io::Result<()> {
         "offset of {offset} hundredths of a metre: whole metres {whole}, hundredths {rest}"
     )?;
     let mut state = State::new();
-    state.words[1] = offset.cast_unsigned();
-    state.words[5] = magnitude;
+    state.words.fixed[1] = offset.cast_unsigned();
+    state.words.fixed[5] = magnitude;
     for raw in examples::signed_offset() {
         work(rt, &mut state, raw)?;
     }
-    let marked = state.words[5].cast_signed();
+    let marked = state.words.fixed[5].cast_signed();
     println!(rt; "  result: marked at {marked}")
 }
 

@@ -5,12 +5,17 @@ ghost use Rattle.worked_examples.specs.Execution.{word_in, bit_in, source_in, ef
 use operations::{Effect, Operation, Source};
 use registers::{General, Predicate, Write};
 
+// What the registers of a kind hold, by number.
+#[derive(Clone, Copy)]
+pub struct Bank<T> {
+    pub fixed: [T; 32],
+    pub rotating: [T; 32],
+}
+
 #[derive(Clone, Copy)]
 pub struct State {
-    pub words: [u32; 32],
-    pub rotating_words: [u32; 32],
-    pub bits: [bool; 32],
-    pub rotating_bits: [bool; 32],
+    pub words: Bank<u32>,
+    pub bits: Bank<bool>,
 }
 
 impl State {
@@ -19,48 +24,43 @@ impl State {
         ensures { result ≡ cleared }
     {
         State {
-            words: [0; 32],
-            rotating_words: [0; 32],
-            bits: [false; 32],
-            rotating_bits: [false; 32],
+            words: Bank {
+                fixed: [0; 32],
+                rotating: [0; 32],
+            },
+            bits: Bank {
+                fixed: [false; 32],
+                rotating: [false; 32],
+            },
         }
     }
 
     pub fn word(&self, g: General) -> u32
         ensures { result ≡ word_in self.now g }
     {
-        if let Some(value) = g.constant() {
-            return value;
-        }
-        match g {
-            General::Static(n) => self.words[n.get() as usize],
-            General::Rotating(n) => self.rotating_words[n.get() as usize],
-        }
+        g.constant().unwrap_or_else(|| match g {
+            General::Static(n) => self.words.fixed[usize::from(n.get())],
+            General::Rotating(n) => self.words.rotating[usize::from(n.get())],
+        })
     }
 
     pub fn bit(&self, p: Predicate) -> bool
         ensures { result ≡ bit_in self.now p }
     {
-        if let Some(value) = p.constant() {
-            return value;
-        }
-        match p {
-            Predicate::Static(n) => self.bits[n.get() as usize],
-            Predicate::Rotating(n) => self.rotating_bits[n.get() as usize],
-        }
+        p.constant().unwrap_or_else(|| match p {
+            Predicate::Static(n) => self.bits.fixed[usize::from(n.get())],
+            Predicate::Rotating(n) => self.bits.rotating[usize::from(n.get())],
+        })
     }
 
     // What a source gives; 0 where the operation has no such source.
     fn source(&self, source: Option<Source>) -> u32
         ensures { result ≡ source_in self.now source }
     {
-        let Some(source) = source else {
-            return 0;
-        };
-        match source {
+        source.map_or(0, |source| match source {
             Source::Register(g) => self.word(g),
             Source::Literal(z) => z.cast_unsigned(),
-        }
+        })
     }
 
     // What the operation does as things stand.
@@ -78,18 +78,17 @@ impl State {
     fn apply(&mut self, write: Option<Write>)
         ensures { self.new ≡ applied self.old write }
     {
-        let Some(write) = write else {
-            return;
-        };
-        match write {
-            Write::Word { to, value } => match to {
-                General::Static(n) => self.words[n.get() as usize] = value,
-                General::Rotating(n) => self.rotating_words[n.get() as usize] = value,
-            },
-            Write::Bit { to, value } => match to {
-                Predicate::Static(n) => self.bits[n.get() as usize] = value,
-                Predicate::Rotating(n) => self.rotating_bits[n.get() as usize] = value,
-            },
+        if let Some(write) = write {
+            match write {
+                Write::Word { to, value } => match to {
+                    General::Static(n) => self.words.fixed[usize::from(n.get())] = value,
+                    General::Rotating(n) => self.words.rotating[usize::from(n.get())] = value,
+                },
+                Write::Bit { to, value } => match to {
+                    Predicate::Static(n) => self.bits.fixed[usize::from(n.get())] = value,
+                    Predicate::Rotating(n) => self.bits.rotating[usize::from(n.get())] = value,
+                },
+            }
         }
     }
 

@@ -2,8 +2,6 @@
 ghost use Rattle.worked_examples.specs.Table.{WorkedResults};
 
 // Each row of the table holds.
-pub fn worked_results() -> u8
+pub fn worked_results()
     ensures { WorkedResults }
-{
-    0
-}
+{}

@@ -1,6 +1,16 @@
-use Rattle.std.proofs.Common.{sym}
-use Rattle.checker.proofs.Parts.{pair_kept}
+use Rattle.std.proofs.Common.{◌≡◌, Some, MatchOption, rules}
+use Rattle.std.specs.Bool.{then_some}
+use Rattle.std.specs.List.{All}
+use Rattle.operations.specs.declared.refusal.Dependence.TheVariants.{Memory}
+use Rattle.registers.specs.declared.register.Place.TheVariants as place
+use Rattle.checker.specs.Pairs.{broken, PartKept, Breaks}
+use Rattle.checker.proofs.Parts.{memory_break, found_or_memory}
 use Rattle.checker.proofs.pair.pair.Goals as goal
 
 pub returns : goal.returns
-returns c = pair_kept _ _ c.parts-parts.result c.loop-i.i c.parts-parts.ensures c.loop-i-test.false c.loop-i.invariant (sym c.if-broken.ensures)
+returns c =
+    let a = c.args.earlier.now in
+    let b = c.args.later.now in
+    let f : MatchOption c.find_map-found.result (All (λ o. PartKept o a b) c.parts-parts.result) (λ k. Breaks k.dependence k.place a b) = search rules in
+    let g : MatchOption c.find_map-found.result (c.or_else.result ≡ then_some (broken Memory place.Memory a b) memory_break) (λ k. c.or_else.result ≡ Some k) = search rules in
+    found_or_memory a b _ _ _ c.parts-parts.ensures f g

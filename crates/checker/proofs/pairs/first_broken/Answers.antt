@@ -1,8 +1,12 @@
-use Rattle.std.proofs.Common.{arith, below_more}
+use Rattle.std.proofs.Common.{length, refl, IfSome, rules}
+use Rattle.operations.specs.declared.refusal.Violation.{Violation}
+use Rattle.checker.specs.Pairs.{KeptFrom, Found}
+use Rattle.checker.proofs.Pairwise.{all_kept}
+use Rattle.checker.proofs.Searches.{none_below}
 use Rattle.checker.proofs.pairs.first_broken.Goals as goal
 
-pub loop-j-preserved : goal.loop-j-preserved
-loop-j-preserved c = below_more _ _ c.loop-j.invariant c.in_default.ensures
-
 pub returns : goal.returns
-returns c = λ j h. c.loop-j.invariant j (omega arith)
+returns c =
+    let ps = c.args.placed.now in
+    let some : IfSome c.find_map.result (λ v. Found c.args.last ps v) = search rules in
+    all_kept {C = Violation} ps (length ps) c.find_map.result (λ v. Found c.args.last ps v) (none_below _ _ _ (length ps) _ (KeptFrom ps) (λ v. Found c.args.last ps v) _ refl refl c.find_map.ensures.runs (search rules) (λ x h. search rules) some)

@@ -1,17 +1,12 @@
-use Rattle.std.proofs.Common.{leb, sym, ap, ◌∙◌, arith}
-use Rattle.std.proofs.lemmas.List.{drop_all}
-use Rattle.std.proofs.lemmas.Bool.{le-leb}
-use Rattle.memories.specs.Sections.{word_count}
-use Rattle.memories.proofs.Ordered.{count_past, count_next}
+use Rattle.std.proofs.Common.{is_some, ap, ◌∙◌, rules, tests}
+use Rattle.std.proofs.lemmas.Iterator.{YieldsList-from_slice}
+use Rattle.memories.proofs.Totals.{total_from_try_fold}
+use Rattle.memories.proofs.Ordered.{leaves, leaves_all}
 use Rattle.memories.proofs.validity.has_room.Goals as goal
 
-pub returns-then-s-left : goal.returns-then-s-left
-returns-then-s-left c =
-    sym (count_past c.args.sections.now c.loop-s.s-index (record { offset = 0; length = 0 }) c.loop-s.left c.loop-s-test.true (omega arith)) ∙ c.loop-s.invariant
-
-pub loop-s-preserved : goal.loop-s-preserved
-loop-s-preserved c =
-    count_next _ _ _ c.loop-s.left c.loop-s-test.true (omega arith) ∙ c.loop-s.invariant
-
 pub returns : goal.returns
-returns c = sym (le-leb 0 c.loop-s.left (omega arith)) ∙ sym (ap (λ l. leb (word_count l) c.loop-s.left) (drop_all _ _ c.loop-s-test.false)) ∙ c.loop-s.invariant
+returns c =
+    let ss = c.args.sections.now in
+    c.is_some.ensures
+    ∙ ap is_some (total_from_try_fold _ _ _ leaves _ (λ b x r q k. search (rules, tests)) c.args.room c.try_fold.result (YieldsList-from_slice ss cc) _ c.try_fold.ensures.ran)
+    ∙ leaves_all ss c.args.room

@@ -1,16 +1,12 @@
-use Rattle.std.proofs.Common.{true, false, sym, ap, ◌∙◌}
-use Rattle.std.proofs.lemmas.List.{drop_all}
-use Rattle.memories.specs.Sections.{in_order}
-use Rattle.memories.proofs.Ordered.{order_at}
+use Rattle.std.proofs.Common.{is_some, ap, ◌∙◌, rules, tests}
+use Rattle.std.proofs.lemmas.Iterator.{YieldsList-from_slice}
+use Rattle.memories.proofs.Totals.{total_from_try_fold}
+use Rattle.memories.proofs.Ordered.{follows, follow_all}
 use Rattle.memories.proofs.validity.in_order.Goals as goal
 
-pub returns-then-not-right_after : goal.returns-then-not-right_after
-returns-then-not-right_after c =
-    sym (order_at _ _ _ _ false c.loop-s-test.true (sym c.right_after.ensures ∙ c.if-not-right_after.true)) ∙ c.loop-s.invariant
-
-pub loop-s-preserved : goal.loop-s-preserved
-loop-s-preserved c =
-    sym (order_at _ _ _ _ true c.loop-s-test.true (sym c.right_after.ensures ∙ c.if-not-right_after.false)) ∙ c.loop-s.invariant
-
 pub returns : goal.returns
-returns c = sym (ap (in_order c.loop-s.low) (drop_all _ _ c.loop-s-test.false)) ∙ c.loop-s.invariant
+returns c =
+    let ss = c.args.sections.now in
+    c.is_some.ensures
+    ∙ ap is_some (total_from_try_fold _ _ _ follows _ (λ b x r q k. search (rules, tests)) 0 c.try_fold.result (YieldsList-from_slice ss cc) _ c.try_fold.ensures.ran)
+    ∙ follow_all ss 0

@@ -4,13 +4,13 @@ use Rattle.memories.specs.Sections.{index, there}
 use Rattle.memories.proofs.Packed.{same_index, word_after}
 use Rattle.memories.proofs.sectioned.SectionedMemory.store.Goals as goal
 
-pub returns-in-Some : goal.returns-in-Some
-returns-in-Some c =
+pub returns : goal.returns
+returns c =
     let m = c.args.self.now in
     let ss = m.sections.now in
     let ws = m.words.now in
     let b = c.args.address in
-    let k = c.in-Some.place in
+    let k = c.in_ok-place.place in
     let e : index ss (length ws) b ≡ Some k = search rules in
     record {
       answer = sym (ap (λ o. stored (there o) true) e);
