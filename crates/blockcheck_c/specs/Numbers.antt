@@ -1,10 +1,8 @@
 -- Verdicts as numbers. Assumes nothing.
 use Rattle.std.specs.Prelude.{ℕ, ◌+◌, List, [], ◌∷◌, length}
 use Rattle.std.specs.List.{flat_map}
-use Rattle.registers.specs.declared.register.General.{General}
-use Rattle.registers.specs.declared.register.General.TheVariants as general
-use Rattle.registers.specs.declared.register.Predicate.{Predicate}
-use Rattle.registers.specs.declared.register.Predicate.TheVariants as predicate
+use Rattle.registers.specs.declared.banked.Banked.TheVariants as banked
+use Rattle.registers.specs.Registers.{General, Predicate}
 use Rattle.registers.specs.declared.register.Register.{Register}
 use Rattle.registers.specs.declared.register.Register.TheVariants as register
 use Rattle.registers.specs.declared.register.Place.{Place}
@@ -16,12 +14,12 @@ use Rattle.verdicts.specs.declared.verdict.Standing.TheVariants.{Kept, Violated,
 use Rattle.verdicts.specs.declared.verdict.BlockVerdict.{BlockVerdict}
 
 abbrev pub general_number : General → ℕ
-general_number (general.Static n) = n.number
-general_number (general.Rotating n) = 32 + n.number
+general_number (banked.Static n) = n.number
+general_number (banked.Rotating n) = 32 + n.number
 
 abbrev pub predicate_number : Predicate → ℕ
-predicate_number (predicate.Static n) = 64 + n.number
-predicate_number (predicate.Rotating n) = 96 + n.number
+predicate_number (banked.Static n) = 64 + n.number
+predicate_number (banked.Rotating n) = 96 + n.number
 
 abbrev pub register_number : Register → ℕ
 register_number (register.General g) = general_number g

@@ -7,19 +7,18 @@ use Rattle.operations.specs.declared.raw.RawOperation.{RawOperation}
 use Rattle.operations.specs.declared.refusal.Refusal.{Refusal}
 use Rattle.operations.specs.declared.refusal.Refusal.TheVariants.{NoSuch, BlockFull, BeyondLimit, ClassNotTaken, Occupied}
 use Rattle.operations.specs.Typing.{names_exist, typed_of}
-use Rattle.registers.specs.declared.register.Predicate.{Predicate}
+use Rattle.registers.specs.Registers.{Predicate}
 use Rattle.registers.specs.Names.{predicate_of}
 use Rattle.blocks.specs.declared.description.Slot.{Slot}
 use Rattle.blocks.specs.declared.position.Position.{Position}
 use Rattle.blocks.specs.declared.position.Entry.{Entry}
-use Rattle.blocks.specs.declared.exit.BlockNumber.{BlockNumber}
 use Rattle.blocks.specs.declared.exit.Exit.{Exit}
 use Rattle.blocks.specs.declared.exit.Exit.TheVariants as exit
 use Rattle.blocks.specs.declared.exit.RawExit.{RawExit}
 use Rattle.blocks.specs.declared.exit.RawExit.TheVariants.{Halt, Next, Goto, If, Loop}
 use Rattle.blocks.specs.Steps.{Outcome, after}
 use Rattle.blocks.specs.Machine.{takes_class}
-use Rattle.blocks.specs.Exits.{block_numbered, exit_named, raw_goes_on, goes_on, exit_for}
+use Rattle.blocks.specs.Exits.{BlockNumber, block_numbered, exit_named, raw_goes_on, goes_on, exit_for}
 use Rattle.blocks.specs.Entries.{position_for, position_at, slot_in, placed, occupied, class_at, fits_position, fits_slot, AllFit, put}
 use Rattle.blocks.specs.Model.{Body, with_entries, with_exit, unplaced, append, add_step, move_to, place_step, lift_from, lift_step, leave_by, exit_step}
 

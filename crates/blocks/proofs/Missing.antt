@@ -5,7 +5,7 @@ use Rattle.operations.specs.declared.refusal.Refusal.{Refusal}
 use Rattle.operations.specs.declared.refusal.Refusal.TheVariants.{NoSuch, WrongOperands}
 use Rattle.operations.specs.declared.operation.Form.{Form}
 use Rattle.operations.specs.Typing.{names_exist, typed_of, form_of}
-use Rattle.registers.specs.declared.register.Predicate.{Predicate}
+use Rattle.registers.specs.Registers.{Predicate}
 use Rattle.registers.specs.Names.{predicate_of}
 use Rattle.std.proofs.lemmas.Bool.{false≢true}
 

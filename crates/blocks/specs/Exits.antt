@@ -2,20 +2,23 @@
 use Rattle.std.specs.Prelude.{◌≡◌, ℕ, Bool, true, false, cond, ◌&&◌, Some, None, Option, nat_le, nat_lt, refl}
 use Rattle.std.proofs.Common.{ltb-true}
 use Rattle.std.specs.Option.{option_map, option_zip}
+use Rattle.registers.specs.declared.number.NumberBelow.{NumberBelow}
+use Rattle.registers.specs.Registers.{below, numbered}
 use Rattle.registers.specs.Names.{predicate_of}
-use Rattle.blocks.specs.declared.exit.BlockNumber.{BlockNumber}
 use Rattle.blocks.specs.declared.exit.Exit.{Exit}
 use Rattle.blocks.specs.declared.exit.Exit.TheVariants as exit
 use Rattle.blocks.specs.declared.exit.RawExit.{RawExit}
 use Rattle.blocks.specs.declared.exit.RawExit.TheVariants.{Halt, Next, Goto, If, Loop}
 
+abbrev pub BlockNumber : Type 0
+BlockNumber = NumberBelow 16
+
 abbrev pub block_below : (n : ℕ) (b : Bool) → nat_lt n 16 ≡ b → Option BlockNumber
-block_below n true e = Some (record { number = n; below = ltb-true n 16 e })
-block_below n false e = None
+block_below = below
 
 -- the block number n: there is one for each n below 16
 abbrev pub block_numbered : ℕ → Option BlockNumber
-block_numbered n = block_below n (nat_lt n 16) refl
+block_numbered = numbered
 
 -- the exit, where there are the block and the register that it names
 abbrev pub exit_named : RawExit → Option Exit

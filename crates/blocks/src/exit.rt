@@ -1,14 +1,8 @@
 // Where a block may lead when it ends.
-ghost use Rattle.std.specs.Prelude.{◌<◌};
-
-use registers::{Predicate, PredicateName};
+use registers::{NumberBelow, Predicate, PredicateName};
 
 // The number of a block, 0 to 15.
-#[derive(Clone, Copy)]
-pub struct BlockNumber {
-    pub number: u8,
-    ghost below: { number < 16 },
-}
+pub type BlockNumber = NumberBelow<16>;
 
 #[derive(Clone, Copy)]
 pub enum Exit {

@@ -1,6 +1,6 @@
 // Exits as they are handed in, and what they mean.
 ghost use Rattle.std.specs.Prelude.{◌≡◌};
-ghost use Rattle.blocks.specs.Exits.{block_numbered, raw_goes_on, exit_named, exit_for};
+ghost use Rattle.blocks.specs.Exits.{raw_goes_on, exit_named, exit_for};
 
 use crate::exit::{BlockNumber, Exit, RawExit};
 
@@ -9,20 +9,6 @@ pub(crate) const BLOCKS: u8 = 16;
 
 // The number of the last block.
 const LAST: u8 = 15;
-
-impl BlockNumber {
-    // The number, where there is such a block.
-    pub(crate) fn new(number: u8) -> Option<BlockNumber>
-        ensures { result ≡ block_numbered number }
-    {
-        // No `then`: a closure that makes a number would have to require this test once more.
-        if number < BLOCKS {
-            Some(BlockNumber { number })
-        } else {
-            None
-        }
-    }
-}
 
 impl RawExit {
     // Whether it can lead to the block behind.

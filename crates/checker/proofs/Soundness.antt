@@ -2,14 +2,11 @@
 use Rattle.std.proofs.Common.{◌≡◌, ℕ, zero, suc, ◌<◌, Bool, true, false, cond, eqb, ltb, List, [], ◌∷◌, ◌++◌, map, length, get_or, is_some, Some, None, Option, sym, refl, ◌∙◌, arith, lit<}
 use Rattle.std.specs.Option.{option_to_list}
 use Rattle.std.proofs.lemmas.Bool.{eq-eqb, and_from}
-use Rattle.registers.specs.declared.register.General as general
-use Rattle.registers.specs.declared.register.General.{General}
-use Rattle.registers.specs.declared.register.Predicate as predicate
-use Rattle.registers.specs.declared.register.Predicate.{Predicate}
+use Rattle.registers.specs.declared.banked.Banked.TheVariants as banked
 use Rattle.registers.specs.declared.register.Register as register
 use Rattle.registers.specs.declared.register.Place.{Place}
 use Rattle.registers.specs.declared.register.Place.TheVariants as place
-use Rattle.registers.specs.Registers.{general_place, predicate_place}
+use Rattle.registers.specs.Registers.{General, Predicate, general_place, predicate_place}
 use Rattle.operations.specs.declared.access.Class.{Class}
 use Rattle.operations.specs.declared.operation.Form.{Form}
 use Rattle.operations.specs.declared.operation.Form.TheVariants.{Binary, Unary, Compare, Load, Store}
@@ -31,20 +28,20 @@ no_test e = let z : ◌≡◌ {A = ℕ} 0 1 = cc in absurd (omega arith)
 
 -- a register is not the memory
 skip_general : (g : General) (rest : List Place) → among place.Memory (option_to_list (general_place g) ++ rest) ≡ among place.Memory rest
-skip_general (general.TheVariants.Static n) rest = by (eqb n.number 0)
+skip_general (banked.Static n) rest = by (eqb n.number 0)
   where
-    by : (b : Bool) → among place.Memory (option_to_list (cond b None (Some (place.Register (register.TheVariants.General (general.TheVariants.Static n))))) ++ rest) ≡ among place.Memory rest
+    by : (b : Bool) → among place.Memory (option_to_list (cond b None (Some (place.Register (register.TheVariants.General (banked.Static n))))) ++ rest) ≡ among place.Memory rest
     by true = refl
     by false = refl
-skip_general (general.TheVariants.Rotating n) rest = refl
+skip_general (banked.Rotating n) rest = refl
 
 skip_predicate : (p : Predicate) (rest : List Place) → among place.Memory (option_to_list (predicate_place p) ++ rest) ≡ among place.Memory rest
-skip_predicate (predicate.TheVariants.Static n) rest = by (ltb n.number 2)
+skip_predicate (banked.Static n) rest = by (ltb n.number 2)
   where
-    by : (b : Bool) → among place.Memory (option_to_list (cond b None (Some (place.Register (register.TheVariants.Predicate (predicate.TheVariants.Static n))))) ++ rest) ≡ among place.Memory rest
+    by : (b : Bool) → among place.Memory (option_to_list (cond b None (Some (place.Register (register.TheVariants.Predicate (banked.Static n))))) ++ rest) ≡ among place.Memory rest
     by true = refl
     by false = refl
-skip_predicate (predicate.TheVariants.Rotating n) rest = refl
+skip_predicate (banked.Rotating n) rest = refl
 
 -- no operation both stores and loads
 one_way : (g : Predicate) (f : Form) → writes place.Memory (record { guard = g; form = f }) ≡ true → reads place.Memory (record { guard = g; form = f }) ≡ true → ⊥

@@ -5,8 +5,7 @@ use Rattle.opcodes.specs.declared.integer.BinaryOpcode.{BinaryOpcode}
 use Rattle.opcodes.specs.declared.integer.BinaryOpcode.TheVariants as binary
 use Rattle.opcodes.specs.declared.integer.UnaryOpcode.{UnaryOpcode}
 use Rattle.opcodes.specs.declared.integer.UnaryOpcode.TheVariants as unary
-use Rattle.lines.specs.declared.written.WrittenGeneral.TheVariants as general_name
-use Rattle.lines.specs.declared.written.WrittenPredicate.TheVariants as predicate_name
+use Rattle.registers.specs.declared.banked.Banked.TheVariants as banked
 use Rattle.lines.specs.declared.written.WrittenRegister.{WrittenRegister}
 use Rattle.lines.specs.declared.written.WrittenRegister.TheVariants as name
 use Rattle.operations.specs.declared.raw.Opcode.{Opcode}
@@ -47,10 +46,10 @@ lead_minus : (c : ℕ) → Digit c → lead 45 c ≡ 2
 lead_minus c d = grind arith
 
 lead_name : (x : WrittenRegister) (rest : List ℕ) → lead_of (name_text x ++ rest) ≡ 1
-lead_name (name.General (general_name.Static n)) rest = refl
-lead_name (name.General (general_name.Rotating n)) rest = refl
-lead_name (name.Predicate (predicate_name.Static n)) rest = refl
-lead_name (name.Predicate (predicate_name.Rotating n)) rest = refl
+lead_name (name.General (banked.Static n)) rest = refl
+lead_name (name.General (banked.Rotating n)) rest = refl
+lead_name (name.Predicate (banked.Static n)) rest = refl
+lead_name (name.Predicate (banked.Rotating n)) rest = refl
 
 lead_literal : (z : ℤ) (rest : List ℕ) → ShortLiteral z → lead_of (signed_decimal z ++ rest) ≡ 2
 lead_literal (pos n) rest h = lead_digit _ (get_or (signed_decimal (pos n) ++ rest) 1 0) (first_digit n rest h)

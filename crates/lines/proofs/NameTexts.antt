@@ -3,8 +3,7 @@ use Rattle.std.proofs.Common.{◌≡◌, ℕ, ◌≤◌, List, ◌++◌, get_or,
 use Rattle.std.proofs.lemmas.Str.Parse.{digit_at}
 use Rattle.std.proofs.lemmas.Fmt.{digits_decimal, decimal_nonempty}
 use Rattle.std.proofs.lemmas.List.{get_or_append_left, append_cancel_left}
-use Rattle.lines.specs.declared.written.WrittenGeneral.TheVariants as general_name
-use Rattle.lines.specs.declared.written.WrittenPredicate.TheVariants as predicate_name
+use Rattle.registers.specs.declared.banked.Banked.TheVariants as banked
 use Rattle.lines.specs.declared.written.WrittenRegister.{WrittenRegister}
 use Rattle.lines.specs.declared.written.WrittenRegister.TheVariants as name
 use Rattle.lines.specs.declared.written.Token.TheVariants as token
@@ -39,26 +38,26 @@ one_field w t n m r s h k =
 at : (i : ℕ) (t l k : List ℕ) → t ≡ l → t ≡ k → get_or l i 0 ≡ get_or k i 0
 at i t l k e f = ap (λ x. get_or x i 0) (sym e ∙ f)
 
-pub static : (t : List ℕ) (n : ℕ) (r : List ℕ) (y : WrittenRegister) (s : List ℕ) → Field (codes "r") t n r → TokenAt t (token.Register y) s → (name.General (general_name.Static n) ≡ y) × (r ≡ s)
-static t n r (name.General (general_name.Static m)) s h k =
+pub static : (t : List ℕ) (n : ℕ) (r : List ℕ) (y : WrittenRegister) (s : List ℕ) → Field (codes "r") t n r → TokenAt t (token.Register y) s → (name.General (banked.Static n) ≡ y) × (r ≡ s)
+static t n r (name.General (banked.Static m)) s h k =
     let e = one_field (codes "r") t n m r s h (record { small = k.short; whole = k.whole; ends = k.ends }) in
-    (ap (λ i. name.General (general_name.Static i)) e.0, e.1)
-static t n r (name.General (general_name.Rotating m)) s h k = absurd (omega (arith, at 1 t _ _ h.whole k.whole, first_digit n r h.small))
-static t n r (name.Predicate (predicate_name.Static m)) s h k = absurd (omega (arith, at 0 t _ _ h.whole k.whole))
-static t n r (name.Predicate (predicate_name.Rotating m)) s h k = absurd (omega (arith, at 1 t _ _ h.whole k.whole, first_digit n r h.small))
+    (ap (λ i. name.General (banked.Static i)) e.0, e.1)
+static t n r (name.General (banked.Rotating m)) s h k = absurd (omega (arith, at 1 t _ _ h.whole k.whole, first_digit n r h.small))
+static t n r (name.Predicate (banked.Static m)) s h k = absurd (omega (arith, at 0 t _ _ h.whole k.whole))
+static t n r (name.Predicate (banked.Rotating m)) s h k = absurd (omega (arith, at 1 t _ _ h.whole k.whole, first_digit n r h.small))
 
-pub rotating : (t : List ℕ) (n : ℕ) (r : List ℕ) (y : WrittenRegister) (s : List ℕ) → Field (codes "rr") t n r → TokenAt t (token.Register y) s → (name.General (general_name.Rotating n) ≡ y) × (r ≡ s)
-rotating t n r (name.General (general_name.Static m)) s h k = absurd (omega (arith, at 1 t _ _ h.whole k.whole, first_digit m s k.short))
-rotating t n r (name.General (general_name.Rotating m)) s h k =
+pub rotating : (t : List ℕ) (n : ℕ) (r : List ℕ) (y : WrittenRegister) (s : List ℕ) → Field (codes "rr") t n r → TokenAt t (token.Register y) s → (name.General (banked.Rotating n) ≡ y) × (r ≡ s)
+rotating t n r (name.General (banked.Static m)) s h k = absurd (omega (arith, at 1 t _ _ h.whole k.whole, first_digit m s k.short))
+rotating t n r (name.General (banked.Rotating m)) s h k =
     let e = one_field (codes "rr") t n m r s h (record { small = k.short; whole = k.whole; ends = k.ends }) in
-    (ap (λ i. name.General (general_name.Rotating i)) e.0, e.1)
-rotating t n r (name.Predicate (predicate_name.Static m)) s h k = absurd (omega (arith, at 0 t _ _ h.whole k.whole))
-rotating t n r (name.Predicate (predicate_name.Rotating m)) s h k = absurd (omega (arith, at 1 t _ _ h.whole k.whole))
+    (ap (λ i. name.General (banked.Rotating i)) e.0, e.1)
+rotating t n r (name.Predicate (banked.Static m)) s h k = absurd (omega (arith, at 0 t _ _ h.whole k.whole))
+rotating t n r (name.Predicate (banked.Rotating m)) s h k = absurd (omega (arith, at 1 t _ _ h.whole k.whole))
 
-pub rotating_predicate : (t : List ℕ) (n : ℕ) (r : List ℕ) (y : WrittenRegister) (s : List ℕ) → Field (codes "rp") t n r → TokenAt t (token.Register y) s → (name.Predicate (predicate_name.Rotating n) ≡ y) × (r ≡ s)
-rotating_predicate t n r (name.General (general_name.Static m)) s h k = absurd (omega (arith, at 1 t _ _ h.whole k.whole, first_digit m s k.short))
-rotating_predicate t n r (name.General (general_name.Rotating m)) s h k = absurd (omega (arith, at 1 t _ _ h.whole k.whole))
-rotating_predicate t n r (name.Predicate (predicate_name.Static m)) s h k = absurd (omega (arith, at 0 t _ _ h.whole k.whole))
-rotating_predicate t n r (name.Predicate (predicate_name.Rotating m)) s h k =
+pub rotating_predicate : (t : List ℕ) (n : ℕ) (r : List ℕ) (y : WrittenRegister) (s : List ℕ) → Field (codes "rp") t n r → TokenAt t (token.Register y) s → (name.Predicate (banked.Rotating n) ≡ y) × (r ≡ s)
+rotating_predicate t n r (name.General (banked.Static m)) s h k = absurd (omega (arith, at 1 t _ _ h.whole k.whole, first_digit m s k.short))
+rotating_predicate t n r (name.General (banked.Rotating m)) s h k = absurd (omega (arith, at 1 t _ _ h.whole k.whole))
+rotating_predicate t n r (name.Predicate (banked.Static m)) s h k = absurd (omega (arith, at 0 t _ _ h.whole k.whole))
+rotating_predicate t n r (name.Predicate (banked.Rotating m)) s h k =
     let e = one_field (codes "rp") t n m r s h (record { small = k.short; whole = k.whole; ends = k.ends }) in
-    (ap (λ i. name.Predicate (predicate_name.Rotating i)) e.0, e.1)
+    (ap (λ i. name.Predicate (banked.Rotating i)) e.0, e.1)

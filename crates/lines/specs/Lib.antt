@@ -1,3 +1,4 @@
+pub mod Banks
 pub mod Numbers
 pub mod Begins
 pub mod Fields

@@ -1,15 +1,12 @@
 -- The registers and blocks that a line means, by the numbers that it writes; and those that what is handed in names. Assumes nothing.
 use Rattle.std.specs.Prelude.{List, [], ◌∷◌, ◌++◌, Some, Option}
 use Rattle.std.specs.Option.{option_map, option_zip}
-use Rattle.registers.specs.declared.register.General.{General}
-use Rattle.registers.specs.declared.register.General.TheVariants as general
-use Rattle.registers.specs.declared.register.Predicate.{Predicate}
-use Rattle.registers.specs.declared.register.Predicate.TheVariants as predicate
+use Rattle.lines.specs.Banks.{WrittenGeneral, WrittenPredicate}
 use Rattle.registers.specs.declared.register.Register.{Register}
 use Rattle.registers.specs.declared.register.Register.TheVariants as register
 use Rattle.registers.specs.declared.names.RegisterName.{RegisterName}
-use Rattle.registers.specs.Registers.{numbered}
-use Rattle.registers.specs.Names.{predicate_of, register_of}
+use Rattle.registers.specs.Registers.{General, Predicate}
+use Rattle.registers.specs.Names.{named, predicate_of, register_of}
 use Rattle.operations.specs.declared.raw.Operand.{Operand}
 use Rattle.operations.specs.declared.raw.Operand.TheVariants as operand
 use Rattle.operations.specs.declared.raw.UpToTwo.{UpToTwo}
@@ -18,10 +15,6 @@ use Rattle.operations.specs.declared.raw.RawOperation.{RawOperation}
 use Rattle.blocks.specs.declared.exit.Exit.{Exit}
 use Rattle.blocks.specs.declared.exit.Exit.TheVariants as exit
 use Rattle.blocks.specs.Exits.{block_numbered}
-use Rattle.lines.specs.declared.written.WrittenGeneral.{WrittenGeneral}
-use Rattle.lines.specs.declared.written.WrittenGeneral.TheVariants as written_general
-use Rattle.lines.specs.declared.written.WrittenPredicate.{WrittenPredicate}
-use Rattle.lines.specs.declared.written.WrittenPredicate.TheVariants as written_predicate
 use Rattle.lines.specs.declared.written.WrittenRegister.{WrittenRegister}
 use Rattle.lines.specs.declared.written.WrittenRegister.TheVariants as written_register
 use Rattle.lines.specs.declared.written.WrittenExit.{WrittenExit}
@@ -33,12 +26,10 @@ use Rattle.lines.specs.declared.written.WrittenSources.TheVariants.{One, Two}
 use Rattle.lines.specs.declared.written.WrittenOperation.{WrittenOperation}
 
 abbrev pub general_meant : WrittenGeneral → Option General
-general_meant (written_general.Static n) = option_map general.Static (numbered n)
-general_meant (written_general.Rotating n) = option_map general.Rotating (numbered n)
+general_meant = named
 
 abbrev pub predicate_meant : WrittenPredicate → Option Predicate
-predicate_meant (written_predicate.Static n) = option_map predicate.Static (numbered n)
-predicate_meant (written_predicate.Rotating n) = option_map predicate.Rotating (numbered n)
+predicate_meant = named
 
 abbrev pub register_meant : WrittenRegister → Option Register
 register_meant (written_register.General g) = option_map register.General (general_meant g)

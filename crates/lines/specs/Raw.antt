@@ -1,22 +1,16 @@
 -- A written operation as it is handed in. Assumes nothing.
-use Rattle.std.specs.Prelude.{ℕ, ◌^◌, Bool, true, cond, ◌&&◌, ℤ, pos, negsuc, nat_lt}
+use Rattle.std.specs.Prelude.{◌^◌, Bool, true, cond, ◌&&◌, ℤ, pos, negsuc, nat_lt}
 use Rattle.operations.specs.declared.raw.Operand.{Operand}
 use Rattle.operations.specs.declared.raw.Operand.TheVariants as operand
 use Rattle.operations.specs.declared.raw.UpToTwo.{UpToTwo}
 use Rattle.operations.specs.declared.raw.UpToTwo.TheVariants as up_to
 use Rattle.operations.specs.declared.raw.RawOperation.{RawOperation}
-use Rattle.registers.specs.declared.names.GeneralName.{GeneralName}
-use Rattle.registers.specs.declared.names.GeneralName.TheVariants as general_name
-use Rattle.registers.specs.declared.names.PredicateName.{PredicateName}
-use Rattle.registers.specs.declared.names.PredicateName.TheVariants as predicate_name
+use Rattle.registers.specs.Names.{handed, raw_name, GeneralName, PredicateName}
+use Rattle.lines.specs.Banks.{WrittenGeneral, WrittenPredicate}
 use Rattle.registers.specs.declared.names.RegisterName.{RegisterName}
 use Rattle.registers.specs.declared.names.RegisterName.TheVariants as name
 use Rattle.blocks.specs.declared.exit.RawExit.{RawExit}
 use Rattle.blocks.specs.declared.exit.RawExit.TheVariants as raw
-use Rattle.lines.specs.declared.written.WrittenGeneral.{WrittenGeneral}
-use Rattle.lines.specs.declared.written.WrittenGeneral.TheVariants as general
-use Rattle.lines.specs.declared.written.WrittenPredicate.{WrittenPredicate}
-use Rattle.lines.specs.declared.written.WrittenPredicate.TheVariants as predicate
 use Rattle.lines.specs.declared.written.WrittenRegister.{WrittenRegister}
 use Rattle.lines.specs.declared.written.WrittenRegister.TheVariants as register
 use Rattle.lines.specs.declared.written.WrittenExit.{WrittenExit}
@@ -27,17 +21,11 @@ use Rattle.lines.specs.declared.written.WrittenSources.{WrittenSources}
 use Rattle.lines.specs.declared.written.WrittenSources.TheVariants.{One, Two}
 use Rattle.lines.specs.declared.written.WrittenOperation.{WrittenOperation}
 
--- the number of a register or a block as it is handed in: 255, which none has, stands for every one above
-abbrev pub handed : ℕ → ℕ
-handed n = cond (nat_lt n 255) n 255
-
 abbrev pub raw_general : WrittenGeneral → GeneralName
-raw_general (general.Static n) = general_name.Static (handed n)
-raw_general (general.Rotating n) = general_name.Rotating (handed n)
+raw_general = raw_name
 
 abbrev pub raw_predicate : WrittenPredicate → PredicateName
-raw_predicate (predicate.Static n) = predicate_name.Static (handed n)
-raw_predicate (predicate.Rotating n) = predicate_name.Rotating (handed n)
+raw_predicate = raw_name
 
 abbrev pub raw_register : WrittenRegister → RegisterName
 raw_register (register.General g) = name.General (raw_general g)

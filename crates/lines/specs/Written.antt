@@ -2,10 +2,8 @@
 use Rattle.std.specs.Prelude.{ℕ, Bool, false, cond, List, [], ◌++◌, codes, decimal, ◌==◌}
 use Rattle.std.specs.Fmt.{signed_decimal}
 use Rattle.opcodes.specs.Texts.{binary_text, unary_text, condition_text, action_text}
-use Rattle.lines.specs.declared.written.WrittenGeneral.{WrittenGeneral}
-use Rattle.lines.specs.declared.written.WrittenGeneral.TheVariants as general_name
-use Rattle.lines.specs.declared.written.WrittenPredicate.{WrittenPredicate}
-use Rattle.lines.specs.declared.written.WrittenPredicate.TheVariants as predicate_name
+use Rattle.registers.specs.declared.banked.Banked.TheVariants as banked
+use Rattle.lines.specs.Banks.{WrittenGeneral, WrittenPredicate}
 use Rattle.lines.specs.declared.written.WrittenRegister.{WrittenRegister}
 use Rattle.lines.specs.declared.written.WrittenRegister.TheVariants as name
 use Rattle.operations.specs.declared.raw.Opcode.{Opcode}
@@ -20,12 +18,12 @@ use Rattle.lines.specs.declared.written.WrittenOperation.{WrittenOperation}
 use Rattle.lines.specs.Numbers.{Short, ShortLiteral}
 
 abbrev pub general_name_text : WrittenGeneral → List ℕ
-general_name_text (general_name.Static n) = codes "r" ++ decimal n
-general_name_text (general_name.Rotating n) = codes "rr" ++ decimal n
+general_name_text (banked.Static n) = codes "r" ++ decimal n
+general_name_text (banked.Rotating n) = codes "rr" ++ decimal n
 
 abbrev pub predicate_name_text : WrittenPredicate → List ℕ
-predicate_name_text (predicate_name.Static n) = codes "p" ++ decimal n
-predicate_name_text (predicate_name.Rotating n) = codes "rp" ++ decimal n
+predicate_name_text (banked.Static n) = codes "p" ++ decimal n
+predicate_name_text (banked.Rotating n) = codes "rp" ++ decimal n
 
 abbrev pub name_text : WrittenRegister → List ℕ
 name_text (name.General g) = general_name_text g
@@ -55,8 +53,8 @@ destinations_text (up_to.Two d e) rest = name_text d ++ (codes ", " ++ (name_tex
 
 -- p1, the guard that is left off
 abbrev pub always : WrittenPredicate → Bool
-always (predicate_name.Static n) = n == 1
-always (predicate_name.Rotating n) = false
+always (banked.Static n) = n == 1
+always (banked.Rotating n) = false
 
 abbrev pub guard_text : WrittenPredicate → List ℕ
 guard_text g = cond (always g) [] (codes " if " ++ predicate_name_text g)
@@ -72,12 +70,12 @@ abbrev pub written_text : WrittenOperation → List ℕ
 written_text w = destinations_text w.destinations (call_text w.opcode w.sources w.guard)
 
 abbrev pub general_number : WrittenGeneral → ℕ
-general_number (general_name.Static n) = n
-general_number (general_name.Rotating n) = n
+general_number (banked.Static n) = n
+general_number (banked.Rotating n) = n
 
 abbrev pub predicate_number : WrittenPredicate → ℕ
-predicate_number (predicate_name.Static n) = n
-predicate_number (predicate_name.Rotating n) = n
+predicate_number (banked.Static n) = n
+predicate_number (banked.Rotating n) = n
 
 abbrev pub name_number : WrittenRegister → ℕ
 name_number (name.General g) = general_number g

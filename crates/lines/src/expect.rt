@@ -11,7 +11,7 @@ use crate::saying::Said;
 pub(crate) fn expect<T: Said>(reader: &mut Reader) -> Option<T>
     ensures { Says T.token (left reader.old) result (left reader.new) }
 {
-    T::from_token(reader.next()?.token)
+    T::from_token(reader.next()?.token())
 }
 
 fn mark(reader: &mut Reader, expected: Mark) -> Option<()>

@@ -1,54 +1,16 @@
 // A written operation as it is handed in.
 ghost use Rattle.std.specs.Prelude.{◌≡◌};
-ghost use Rattle.lines.specs.Raw.{handed, raw_general, raw_predicate, raw_register, raw_destinations, raw_exit, raw_operand, raw_sources, raw_operation, operand_held, literals_held};
-ghost use Rattle.lines.specs.Meant.{general_meant, predicate_meant, register_meant, exit_meant, registers_meant, registers_named};
-ghost use Rattle.registers.specs.Names.{general_of, predicate_of, register_of};
-ghost use Rattle.registers.specs.Registers.{numbered};
-ghost use Rattle.blocks.specs.Exits.{block_numbered, exit_named};
+ghost use Rattle.lines.specs.Raw.{raw_register, raw_destinations, raw_exit, raw_operand, raw_sources, raw_operation, operand_held, literals_held};
+ghost use Rattle.lines.specs.Meant.{register_meant, exit_meant, registers_meant, registers_named};
+ghost use Rattle.registers.specs.Names.{register_of};
+ghost use Rattle.blocks.specs.Exits.{exit_named};
 
 use crate::written::{
-    WrittenExit, WrittenGeneral, WrittenOperand, WrittenOperation, WrittenPredicate,
-    WrittenRegister, WrittenSources,
+    WrittenExit, WrittenOperand, WrittenOperation, WrittenRegister, WrittenSources,
 };
 use blocks::RawExit;
 use operations::{Operand, RawOperation, UpToTwo};
-use registers::{GeneralName, PredicateName, RegisterName};
-
-// What stands for every number above: no register and no block has it.
-const MISSING: u8 = 255;
-
-// The number of a register or a block as it is handed in.
-fn handed(number: u64) -> u8
-    ensures value { result ≡ handed number }
-    ensures register { numbered result ≡ numbered number }
-    ensures block { block_numbered result ≡ block_numbered number }
-{
-    u8::try_from(number).unwrap_or(MISSING)
-}
-
-impl WrittenGeneral {
-    pub fn raw(self) -> GeneralName
-        ensures value { result ≡ raw_general self }
-        ensures meant { general_of result ≡ general_meant self }
-    {
-        match self {
-            WrittenGeneral::Static(n) => GeneralName::Static(handed(n)),
-            WrittenGeneral::Rotating(n) => GeneralName::Rotating(handed(n)),
-        }
-    }
-}
-
-impl WrittenPredicate {
-    pub fn raw(self) -> PredicateName
-        ensures value { result ≡ raw_predicate self }
-        ensures meant { predicate_of result ≡ predicate_meant self }
-    {
-        match self {
-            WrittenPredicate::Static(n) => PredicateName::Static(handed(n)),
-            WrittenPredicate::Rotating(n) => PredicateName::Rotating(handed(n)),
-        }
-    }
-}
+use registers::{RegisterName, handed};
 
 impl WrittenRegister {
     #[tactic(auto, using(crate::proofs::Meaning::register_kept))]

@@ -1,6 +1,6 @@
 // A line handed out item by item.
 ghost use Rattle.std.specs.Prelude.{◌≡◌, ℕ, ◌≤◌, List, [], length, IfSome, Decides, MatchOption};
-ghost use Rattle.lines.specs.Items.{left, Handed};
+ghost use Rattle.lines.specs.Items.{left, item_token, Handed};
 ghost use Rattle.lines.specs.Tokens.{TokenAt};
 ghost use Rattle.lines.specs.declared.written.Token.{Token};
 
@@ -35,18 +35,14 @@ impl<'a> Reader<'a> {
     pub fn next(&mut self) -> Option<Item<'a>>
         ensures line { self.new.line.now ≡ self.old.line.now }
         ensures handed { MatchOption result (self.new.at ≡ self.old.at) (λ i. Handed i self.old.line.now self.old.at self.new.at) }
-        ensures sound { IfSome result (λ i. TokenAt (left self.old) i.token (left self.new)) }
-        ensures complete { (k : Token) (rest : List ℕ) → TokenAt (left self.old) k rest → MatchOption result ⊥ (λ i. (i.token ≡ k) × (left self.new ≡ rest)) }
+        ensures sound { IfSome result (λ i. TokenAt (left self.old) (item_token i) (left self.new)) }
+        ensures complete { (k : Token) (rest : List ℕ) → TokenAt (left self.old) k rest → MatchOption result ⊥ (λ i. (item_token i ≡ k) × (left self.new ≡ rest)) }
     {
         let text = self.rest();
         let (token, rest) = token(text)?;
         let at = self.at;
         let taken = text.len() - rest.len();
         self.at += taken;
-        Some(Item {
-            token,
-            text: &text[0..taken],
-            at,
-        })
+        Some(Item::new(token, &text[..taken], at))
     }
 }

@@ -1,19 +1,12 @@
 // Lines as they are written: any numbers of up to ten digits, any registers as operands of any opcode.
 use crate::mark::Mark;
 use operations::{Opcode, UpToTwo};
+use registers::Banked;
 
-// A register with any number, of which there may be none.
-#[derive(Clone, Copy, PartialEq, Eq, Debug)]
-pub enum WrittenGeneral {
-    Static(u64),
-    Rotating(u64),
-}
+// Registers with any number, of which there may be none.
+pub type WrittenGeneral = Banked<u64, 32>;
 
-#[derive(Clone, Copy, PartialEq, Eq, Debug)]
-pub enum WrittenPredicate {
-    Static(u64),
-    Rotating(u64),
-}
+pub type WrittenPredicate = Banked<u64, 1>;
 
 #[derive(Clone, Copy, PartialEq, Eq, Debug)]
 pub enum WrittenRegister {

@@ -1,13 +1,13 @@
 -- A printed exit is read back as it was. Assumes nothing.
 use Rattle.std.proofs.Common.{◌≡◌, ℕ, false, ◌&&◌, leb, Some, sym, refl, arith}
-use Rattle.operations.proofs.Exact.{predicate_back}
-use Rattle.blocks.specs.declared.exit.BlockNumber.{BlockNumber}
+use Rattle.operations.proofs.Exact.{name_back}
 use Rattle.blocks.specs.declared.exit.Exit.{Exit}
 use Rattle.blocks.specs.declared.exit.Exit.TheVariants.{Halt, Next, Goto, If, Loop}
-use Rattle.blocks.specs.Exits.{block_numbered, exit_named, raw_goes_on, goes_on, exit_for}
+use Rattle.blocks.specs.Exits.{BlockNumber, block_numbered, exit_named, raw_goes_on, goes_on, exit_for}
 use Rattle.blocks.proofs.Numbers.{block_there}
 use Rattle.lines.specs.Lines.{ShortExit}
-use Rattle.lines.specs.Raw.{handed, raw_exit}
+use Rattle.lines.specs.Raw.{raw_exit}
+use Rattle.registers.specs.Names.{handed}
 use Rattle.printing.specs.Written.{written_exit}
 use Rattle.printing.proofs.Operations.{handed_same, predicate_raw, short_predicate}
 
@@ -21,7 +21,7 @@ named_back : (x : Exit) → exit_named (raw_exit (written_exit x)) ≡ Some x
 named_back Halt = refl
 named_back Next = refl
 named_back (Goto t) = simp (handed_target t, block_back t)
-named_back (If p t) = simp (predicate_raw p, predicate_back p, handed_target t, block_back t)
+named_back (If p t) = simp (predicate_raw p, name_back p, handed_target t, block_back t)
 named_back (Loop t) = simp (handed_target t, block_back t)
 
 goes_same : (x : Exit) → raw_goes_on (raw_exit (written_exit x)) ≡ goes_on x

@@ -2,13 +2,10 @@
 use Rattle.std.proofs.Common.{◌≡◌, ℕ, ◌<◌, ◌^◌, true, cond, ℤ, pos, negsuc, Ok, sym, refl, ap, ap₂, append_assoc, arith}
 use Rattle.std.proofs.lemmas.Bool.{ltb-true, lt-ltb, and_parts}
 use Rattle.std.specs.Option.{option_map}
-use Rattle.registers.specs.declared.register.General as general
-use Rattle.registers.specs.declared.register.General.{General}
-use Rattle.registers.specs.declared.register.Predicate as predicate
-use Rattle.registers.specs.declared.register.Predicate.{Predicate}
+use Rattle.registers.specs.declared.banked.Banked.TheVariants as banked
+use Rattle.registers.specs.Registers.{General, Predicate}
+use Rattle.registers.specs.Names.{handed}
 use Rattle.registers.specs.Texts.{general_text, predicate_text}
-use Rattle.registers.specs.declared.names.GeneralName.TheVariants as general_name
-use Rattle.registers.specs.declared.names.PredicateName.TheVariants as predicate_name
 use Rattle.operations.specs.declared.operation.Source as source
 use Rattle.operations.specs.declared.operation.Source.{Source}
 use Rattle.operations.specs.declared.operation.Form.{Form}
@@ -25,7 +22,7 @@ use Rattle.blocks.specs.declared.position.Entry.{Entry}
 use Rattle.lines.specs.Lines.{position_text, program_line_text}
 use Rattle.lines.specs.Numbers.{Short, ShortLiteral}
 use Rattle.lines.specs.Written.{general_name_text, predicate_name_text, operand_text, guard_text, written_text, general_number, predicate_number, ShortOperand, ShortOperation, ShortSources, ShortDestinations}
-use Rattle.lines.specs.Raw.{in_range, handed, raw_general, raw_predicate, raw_destinations, raw_operand, raw_sources, raw_operation, operand_held, literals_held}
+use Rattle.lines.specs.Raw.{in_range, raw_general, raw_predicate, raw_destinations, raw_operand, raw_sources, raw_operation, operand_held, literals_held}
 use Rattle.printing.specs.Written.{written_general, written_predicate, written_source, written_sources, written_destinations, written_operation, written_position, entry_line}
 use Rattle.printing.specs.Printed.{entry_text}
 
@@ -59,12 +56,12 @@ pub handed_same : (n : ℕ) → n < 32 → handed n ≡ n
 handed_same n h = ap (λ b. cond b n 255) (lt-ltb n 255 (omega arith))
 
 general_raw : (g : General) → raw_general (written_general g) ≡ name_of_general g
-general_raw (general.TheVariants.Static n) = ap general_name.Static (handed_same n.number n.below)
-general_raw (general.TheVariants.Rotating n) = ap general_name.Rotating (handed_same n.number n.below)
+general_raw (banked.Static n) = ap banked.Static (handed_same n.number n.below)
+general_raw (banked.Rotating n) = ap banked.Rotating (handed_same n.number n.below)
 
 pub predicate_raw : (p : Predicate) → raw_predicate (written_predicate p) ≡ name_of_predicate p
-predicate_raw (predicate.TheVariants.Static n) = ap predicate_name.Static (handed_same n.number n.below)
-predicate_raw (predicate.TheVariants.Rotating n) = ap predicate_name.Rotating (handed_same n.number n.below)
+predicate_raw (banked.Static n) = ap banked.Static (handed_same n.number n.below)
+predicate_raw (banked.Rotating n) = ap banked.Rotating (handed_same n.number n.below)
 
 destinations_raw : (f : Form) → raw_destinations (written_destinations f) ≡ raw.raw_destinations f
 destinations_raw (Binary o d a b) = simp (general_raw d)
@@ -96,12 +93,12 @@ pub typed_same : (x : Operation) → typed_of (raw_of x) ≡ Ok x
 typed_same x = (accepts (raw_of x) x).1 refl
 
 short_general : (g : General) → Short (general_number (written_general g))
-short_general (general.TheVariants.Static n) = omega (arith, n.below)
-short_general (general.TheVariants.Rotating n) = omega (arith, n.below)
+short_general (banked.Static n) = omega (arith, n.below)
+short_general (banked.Rotating n) = omega (arith, n.below)
 
 pub short_predicate : (p : Predicate) → Short (predicate_number (written_predicate p))
-short_predicate (predicate.TheVariants.Static n) = omega (arith, n.below)
-short_predicate (predicate.TheVariants.Rotating n) = omega (arith, n.below)
+short_predicate (banked.Static n) = omega (arith, n.below)
+short_predicate (banked.Rotating n) = omega (arith, n.below)
 
 short_literal : (z : ℤ) → in_range z ≡ true → ShortLiteral z
 short_literal (pos n) h = omega (arith, ltb-true n (2 ^ 31) h)

@@ -15,10 +15,8 @@ use Rattle.opcodes.specs.declared.integer.UnaryOpcode.{UnaryOpcode}
 use Rattle.opcodes.specs.declared.compare.Condition.{Condition}
 use Rattle.opcodes.specs.declared.compare.Action.{Action}
 use Rattle.opcodes.specs.Texts.{binary_text, unary_text, condition_text, action_text}
-use Rattle.lines.specs.declared.written.WrittenGeneral.{WrittenGeneral}
-use Rattle.lines.specs.declared.written.WrittenGeneral.TheVariants as general_name
-use Rattle.lines.specs.declared.written.WrittenPredicate.{WrittenPredicate}
-use Rattle.lines.specs.declared.written.WrittenPredicate.TheVariants as predicate_name
+use Rattle.registers.specs.declared.banked.Banked.TheVariants as banked
+use Rattle.lines.specs.Banks.{WrittenGeneral, WrittenPredicate}
 use Rattle.lines.specs.declared.written.WrittenRegister.{WrittenRegister}
 use Rattle.lines.specs.declared.written.WrittenRegister.TheVariants as name
 use Rattle.operations.specs.declared.raw.Opcode.{Opcode}
@@ -85,12 +83,12 @@ plain_opcode opcode.Load = refl
 plain_opcode opcode.Store = refl
 
 plain_general : (g : WrittenGeneral) → Short (general_number g) → plain (general_name_text g) ≡ true
-plain_general (general_name.Static n) h = plain_decimal n h
-plain_general (general_name.Rotating n) h = plain_decimal n h
+plain_general (banked.Static n) h = plain_decimal n h
+plain_general (banked.Rotating n) h = plain_decimal n h
 
 plain_predicate : (p : WrittenPredicate) → Short (predicate_number p) → plain (predicate_name_text p) ≡ true
-plain_predicate (predicate_name.Static n) h = plain_decimal n h
-plain_predicate (predicate_name.Rotating n) h = plain_decimal n h
+plain_predicate (banked.Static n) h = plain_decimal n h
+plain_predicate (banked.Rotating n) h = plain_decimal n h
 
 plain_name : (x : WrittenRegister) → ShortName x → plain (name_text x) ≡ true
 plain_name (name.General g) h = plain_general g h
@@ -110,12 +108,12 @@ plain_destinations (up_to.One d) rest h r = plain_append (name_text d) _ (plain_
 plain_destinations (up_to.Two d e) rest h r = plain_append (name_text d) _ (plain_name d h.0) (plain_append (name_text e) _ (plain_name e h.1) r)
 
 plain_guard : (p : WrittenPredicate) → Short (predicate_number p) → plain (guard_text p) ≡ true
-plain_guard (predicate_name.Static n) h = by (eqb n 1)
+plain_guard (banked.Static n) h = by (eqb n 1)
   where
-    by : (t : Bool) → plain (cond t [] (codes " if " ++ predicate_name_text (predicate_name.Static n))) ≡ true
+    by : (t : Bool) → plain (cond t [] (codes " if " ++ predicate_name_text (banked.Static n))) ≡ true
     by true = refl
     by false = plain_decimal n h
-plain_guard (predicate_name.Rotating n) h = plain_decimal n h
+plain_guard (banked.Rotating n) h = plain_decimal n h
 
 plain_written : (w : WrittenOperation) → ShortOperation w → plain (written_text w) ≡ true
 plain_written w h =

@@ -8,18 +8,13 @@ use Rattle.operations.specs.declared.operation.Operation.{Operation}
 use Rattle.operations.specs.declared.raw.UpToTwo.{UpToTwo}
 use Rattle.operations.specs.declared.raw.UpToTwo.TheVariants as up_to
 use Rattle.operations.specs.Raw.{raw_opcode}
-use Rattle.registers.specs.declared.register.General.{General}
-use Rattle.registers.specs.declared.register.General.TheVariants as general
-use Rattle.registers.specs.declared.register.Predicate.{Predicate}
-use Rattle.registers.specs.declared.register.Predicate.TheVariants as predicate
+use Rattle.registers.specs.declared.banked.Banked.TheVariants as banked
+use Rattle.registers.specs.Registers.{General, Predicate}
+use Rattle.lines.specs.Banks.{WrittenGeneral, WrittenPredicate}
 use Rattle.blocks.specs.declared.exit.Exit.{Exit}
 use Rattle.blocks.specs.declared.exit.Exit.TheVariants as exit
 use Rattle.blocks.specs.declared.position.Position.{Position}
 use Rattle.blocks.specs.declared.position.Entry.{Entry}
-use Rattle.lines.specs.declared.written.WrittenGeneral.{WrittenGeneral}
-use Rattle.lines.specs.declared.written.WrittenGeneral.TheVariants as general_name
-use Rattle.lines.specs.declared.written.WrittenPredicate.{WrittenPredicate}
-use Rattle.lines.specs.declared.written.WrittenPredicate.TheVariants as predicate_name
 use Rattle.lines.specs.declared.written.WrittenRegister.{WrittenRegister}
 use Rattle.lines.specs.declared.written.WrittenRegister.TheVariants as name
 use Rattle.lines.specs.declared.written.WrittenExit.{WrittenExit}
@@ -34,12 +29,12 @@ use Rattle.lines.specs.declared.written.ProgramLine.{ProgramLine}
 use Rattle.lines.specs.declared.written.ProgramLine.TheVariants as line
 
 abbrev pub written_general : General → WrittenGeneral
-written_general (general.Static n) = general_name.Static n.number
-written_general (general.Rotating n) = general_name.Rotating n.number
+written_general (banked.Static n) = banked.Static n.number
+written_general (banked.Rotating n) = banked.Rotating n.number
 
 abbrev pub written_predicate : Predicate → WrittenPredicate
-written_predicate (predicate.Static n) = predicate_name.Static n.number
-written_predicate (predicate.Rotating n) = predicate_name.Rotating n.number
+written_predicate (banked.Static n) = banked.Static n.number
+written_predicate (banked.Rotating n) = banked.Rotating n.number
 
 abbrev pub general_register : General → WrittenRegister
 general_register g = name.General (written_general g)

@@ -2,13 +2,10 @@
 use Rattle.std.specs.Prelude.{ℕ, Bool, false, replicate, Some, None, Option, slice_index, slice_index_or, slice_set}
 use Rattle.std.specs.Option.{unwrap_or}
 use Rattle.opcodes.specs.Words.{word}
-use Rattle.registers.specs.declared.register.General as general
-use Rattle.registers.specs.declared.register.General.{General}
-use Rattle.registers.specs.declared.register.Predicate as predicate
-use Rattle.registers.specs.declared.register.Predicate.{Predicate}
+use Rattle.registers.specs.declared.banked.Banked.TheVariants as banked
 use Rattle.registers.specs.declared.write.Write.{Write}
 use Rattle.registers.specs.declared.write.Write.TheVariants.{Word, Bit}
-use Rattle.registers.specs.Registers.{general_constant, predicate_constant}
+use Rattle.registers.specs.Registers.{General, Predicate, general_constant, predicate_constant}
 use Rattle.operations.specs.declared.effect.Effect.{Effect}
 use Rattle.operations.specs.declared.effect.Effect.TheVariants as effect
 use Rattle.operations.specs.declared.operation.Operation.{Operation}
@@ -25,12 +22,12 @@ cleared = record {
 }
 
 abbrev word_cell : State → General → ℕ
-word_cell s (general.TheVariants.Static n) = slice_index s.words.fixed n.number
-word_cell s (general.TheVariants.Rotating n) = slice_index s.words.rotating n.number
+word_cell s (banked.Static n) = slice_index s.words.fixed n.number
+word_cell s (banked.Rotating n) = slice_index s.words.rotating n.number
 
 abbrev bit_cell : State → Predicate → Bool
-bit_cell s (predicate.TheVariants.Static n) = slice_index_or s.bits.fixed n.number false
-bit_cell s (predicate.TheVariants.Rotating n) = slice_index_or s.bits.rotating n.number false
+bit_cell s (banked.Static n) = slice_index_or s.bits.fixed n.number false
+bit_cell s (banked.Rotating n) = slice_index_or s.bits.rotating n.number false
 
 -- what a register reads: its constant, or what it holds
 abbrev pub word_in : State → General → ℕ
@@ -57,7 +54,7 @@ writes_in (effect.Store a v) = (None, None)
 -- after a write
 abbrev pub applied : State → Option Write → State
 applied s None = s
-applied s (Some (Word (general.TheVariants.Static n) v)) = record s { words = record s.words { fixed = slice_set s.words.fixed n.number v } }
-applied s (Some (Word (general.TheVariants.Rotating n) v)) = record s { words = record s.words { rotating = slice_set s.words.rotating n.number v } }
-applied s (Some (Bit (predicate.TheVariants.Static n) b)) = record s { bits = record s.bits { fixed = slice_set s.bits.fixed n.number b } }
-applied s (Some (Bit (predicate.TheVariants.Rotating n) b)) = record s { bits = record s.bits { rotating = slice_set s.bits.rotating n.number b } }
+applied s (Some (Word (banked.Static n) v)) = record s { words = record s.words { fixed = slice_set s.words.fixed n.number v } }
+applied s (Some (Word (banked.Rotating n) v)) = record s { words = record s.words { rotating = slice_set s.words.rotating n.number v } }
+applied s (Some (Bit (banked.Static n) b)) = record s { bits = record s.bits { fixed = slice_set s.bits.fixed n.number b } }
+applied s (Some (Bit (banked.Rotating n) b)) = record s { bits = record s.bits { rotating = slice_set s.bits.rotating n.number b } }

@@ -6,13 +6,10 @@ use Rattle.opcodes.specs.declared.compare.Action.TheVariants.{Un, On}
 use Rattle.opcodes.specs.declared.compare.Condition.{Condition}
 use Rattle.opcodes.specs.declared.compare.Condition.TheVariants.{Less, Equal}
 use Rattle.opcodes.specs.declared.integer.BinaryOpcode.TheVariants.{Add, Sub}
-use Rattle.registers.specs.declared.names.GeneralName.TheVariants as general_name
-use Rattle.registers.specs.declared.names.PredicateName.{PredicateName}
-use Rattle.registers.specs.declared.names.PredicateName.TheVariants as predicate_name
+use Rattle.registers.specs.declared.banked.Banked.TheVariants as banked
+use Rattle.registers.specs.Names.{PredicateName}
 use Rattle.registers.specs.declared.names.RegisterName.{RegisterName}
 use Rattle.registers.specs.declared.names.RegisterName.TheVariants as register_name
-use Rattle.registers.specs.declared.register.General.TheVariants as general
-use Rattle.registers.specs.declared.register.Predicate.TheVariants as predicate
 use Rattle.registers.specs.declared.register.Register.TheVariants as register
 use Rattle.registers.specs.declared.register.Place.{Place}
 use Rattle.registers.specs.declared.register.Place.TheVariants as place
@@ -84,10 +81,10 @@ pub record Violates (xs : List Line) (v : Violation) : Type 0 where
 
 -- registers as they are named
 abbrev general_named : ℕ → RegisterName
-general_named n = register_name.General (general_name.Static n)
+general_named n = register_name.General (banked.Static n)
 
 abbrev predicate_named : ℕ → RegisterName
-predicate_named n = register_name.Predicate (predicate_name.Static n)
+predicate_named n = register_name.Predicate (banked.Static n)
 
 abbrev from : ℕ → Operand
 from n = operand.Register (general_named n)
@@ -97,14 +94,14 @@ literal n = operand.Literal (pos n)
 
 -- p1 reads 1
 abbrev always : PredicateName
-always = predicate_name.Static 1
+always = banked.Static 1
 
 -- the places of the table
 abbrev pub r1 : Place
-r1 = place.Register (register.General (general.Static (record { number = 1; below = lit< tt })))
+r1 = place.Register (register.General (banked.Static (record { number = 1; below = lit< tt })))
 
 abbrev pub p2 : Place
-p2 = place.Register (register.Predicate (predicate.Static (record { number = 2; below = lit< tt })))
+p2 = place.Register (register.Predicate (banked.Static (record { number = 2; below = lit< tt })))
 
 -- rN = L(rA)
 abbrev load : ℕ → ℕ → RawOperation
@@ -124,7 +121,7 @@ add_one = record { opcode = Binary Add; guard = always; destinations = One (gene
 
 -- r5 = SUB.W(0, r5) if p2
 abbrev negate : RawOperation
-negate = record { opcode = Binary Sub; guard = predicate_name.Static 2; destinations = One (general_named 5); sources = Two (literal 0) (from 5) }
+negate = record { opcode = Binary Sub; guard = banked.Static 2; destinations = One (general_named 5); sources = Two (literal 0) (from 5) }
 
 -- 0: r1 = L(r2) in cycle 0
 -- 1: r3 = ADD.W(r1, 1) in cycle c

@@ -20,13 +20,15 @@ returns c =
     record {
       line = refl;
       handed = record {
-        begins = refl;
-        part = ap (take (length text - length rest - 0)) c.rest-text.ensures ∙ ap (λ n. take n (drop at L)) (omega arith);
+        begins = c.new.ensures.place;
+        part = c.new.ensures.part ∙ ap (take (length text - length rest)) c.rest-text.ensures ∙ ap (λ n. take n (drop at L)) (omega arith);
         onward = omega arith;
         within = omega (arith, ap length c.rest-text.ensures, length-drop at L, c.args.self.now.within);
       };
-      sound = subst (λ t. TokenAt t c.in_ok-token.token (drop (at + (length text - length rest)) L)) c.rest-text.ensures (subst (λ r. TokenAt text c.in_ok-token.token r) (sym behind) told.sound);
+      sound =
+          subst (λ k. TokenAt (drop at L) k (drop (at + (length text - length rest)) L)) (sym c.new.ensures.says)
+            (subst (λ t. TokenAt t c.in_ok-token.token (drop (at + (length text - length rest)) L)) c.rest-text.ensures (subst (λ r. TokenAt text c.in_ok-token.token r) (sym behind) told.sound));
       complete = λ k r h.
           let p = told.complete k r (subst (λ t. TokenAt t k r) (sym c.rest-text.ensures) h) in
-          (p.0, behind ∙ p.1);
+          (c.new.ensures.says ∙ p.0, behind ∙ p.1);
     }
