@@ -1,7 +1,6 @@
 -- The words that a text begins with. Assumes nothing.
-use Rattle.std.proofs.Common.{◌≡◌, ℕ, ◌+◌, ◌<◌, ◌≤◌, Bool, true, false, cond, eqb, List, [], ◌∷◌, ◌++◌, length, get_or, drop, IfSome, Some, None, Option, refl, ap, ◌∙◌, arith, Bor, eq-eqb, eqb-true, MatchOption}
+use Rattle.std.proofs.Common.{◌≡◌, ℕ, Bool, true, false, cond, eqb, List, [], ◌∷◌, ◌++◌, length, IfSome, Some, None, Option, refl, ap, ◌∙◌, arith, Bor, eq-eqb, eqb-true, MatchOption}
 use borrow.Author.Tests.{eqb-false}
-use Rattle.std.proofs.lemmas.List.{at_drop_more, at_drop_all}
 use Rattle.std.proofs.lemmas.Bool.{cond-true}
 use Rattle.lines.specs.Begins.{Begins}
 use Rattle.lines.specs.Tables.{after, or_else, begun}
@@ -62,19 +61,13 @@ module _ {T : Type 0} where
   pub table_begins : (word : T → List ℕ) (xs : List T) → ((x : T) (rest : List ℕ) → worded word xs (word x ++ rest) ≡ Some (x, rest)) → (t : List ℕ) (r : Option (T × Bor (List ℕ))) → Given word xs t r → Begins (λ x rest. t ≡ word x ++ rest) r
   table_begins word xs each t r g = record { sound = given_sound word xs t r g; complete = λ x rest e. given_only word xs t r g x rest (ap (worded word xs) e ∙ each x rest) }
 
-  -- a turn over the table
-  pub hit : (xs : List (T × Bor (List ℕ))) (i : ℕ) (d : T × Bor (List ℕ)) (t rest : List ℕ) → i < length xs → t ≡ (get_or xs i d).1.now ++ rest → begun (drop i xs) t ≡ Some ((get_or xs i d).0, rest)
-  hit xs i d t rest h e =
-      at_drop_more (λ ys. begun ys t) xs i d h
-      ∙ ap (λ a. or_else a (get_or xs i d).0 (begun (drop (i + 1) xs) t)) (ap (after (get_or xs i d).1.now) e ∙ after_word (get_or xs i d).1.now rest)
+  -- the first entry, by what stands in front
+  pub first_hit : (x : T × Bor (List ℕ)) (xs : List (T × Bor (List ℕ))) (t rest : List ℕ) → t ≡ x.1.now ++ rest → begun (x ∷ xs) t ≡ Some (x.0, rest)
+  first_hit x xs t rest e = ap (λ a. or_else a x.0 (begun xs t)) (ap (after x.1.now) e ∙ after_word x.1.now rest)
 
-  pub miss : (xs : List (T × Bor (List ℕ))) (i : ℕ) (d : T × Bor (List ℕ)) (t : List ℕ) → i < length xs → ((rest : List ℕ) → t ≡ (get_or xs i d).1.now ++ rest → ⊥) → begun (drop i xs) t ≡ begun (drop (i + 1) xs) t
-  miss xs i d t h ne =
-      at_drop_more (λ ys. begun ys t) xs i d h ∙ by (after (get_or xs i d).1.now t) (after_told (get_or xs i d).1.now t)
+  pub first_miss : (x : T × Bor (List ℕ)) (xs : List (T × Bor (List ℕ))) (t : List ℕ) → ((rest : List ℕ) → t ≡ x.1.now ++ rest → ⊥) → begun (x ∷ xs) t ≡ begun xs t
+  first_miss x xs t never = by (after x.1.now t) (after_told x.1.now t)
     where
-      by : (a : Option (List ℕ)) → Told (get_or xs i d).1.now t a → or_else a (get_or xs i d).0 (begun (drop (i + 1) xs) t) ≡ begun (drop (i + 1) xs) t
+      by : (a : Option (List ℕ)) → Told x.1.now t a → or_else a x.0 (begun xs t) ≡ begun xs t
       by None p = refl
-      by (Some r) p = absurd (ne r p)
-
-  pub past : (xs : List (T × Bor (List ℕ))) (i : ℕ) (t : List ℕ) → length xs ≤ i → begun (drop i xs) t ≡ None
-  past xs i t h = at_drop_all (λ ys. begun ys t) xs i h
+      by (Some r) p = absurd (never r p)

@@ -11,11 +11,5 @@ pub(crate) fn begins<'a, T: Copy>(
 ) -> Option<(T, &'a [u8])>
     ensures { MatchOption result (begun table.now text.now ≡ None) (λ x. begun table.now text.now ≡ Some (x.0, x.1.now)) }
 {
-    // `find_map` did not prove: no tactic found what a call of its closure, with the `?` in it, gives.
-    for entry in table {
-        if let Some(rest) = after_word(text, entry.1) {
-            return Some((entry.0, rest));
-        }
-    }
-    None
+    table.iter().find_map(|entry| after_word(text, entry.1).map(|rest| (entry.0, rest)))
 }
