@@ -29,6 +29,7 @@ fn against_earlier(placed: &[Placed], j: usize, last: u8) -> Option<Violation>
     requires { (j < length placed.now) × (length placed.now ≤ 64) }
     ensures { MatchOption result (KeptFrom placed.now j) (λ v. Found last placed.now v) }
 {
+    // By number: over `enumerate` the search for a proof loses which operation stands at the number.
     (0..j).find_map(|i| between(placed, i, j, last))
 }
 
