@@ -1,8 +1,9 @@
 -- Verdicts as numbers. Assumes nothing.
 use Rattle.std.specs.Prelude.{ℕ, ◌+◌, List, [], ◌∷◌, length}
 use Rattle.std.specs.List.{flat_map}
+use Rattle.registers.specs.declared.banked.Banked.{Banked}
 use Rattle.registers.specs.declared.banked.Banked.TheVariants as banked
-use Rattle.registers.specs.Registers.{General, Predicate}
+use Rattle.registers.specs.Registers.{RegisterNumber, General, Predicate}
 use Rattle.registers.specs.declared.register.Register.{Register}
 use Rattle.registers.specs.declared.register.Register.TheVariants as register
 use Rattle.registers.specs.declared.register.Place.{Place}
@@ -13,13 +14,16 @@ use Rattle.verdicts.specs.declared.verdict.Standing.{Standing}
 use Rattle.verdicts.specs.declared.verdict.Standing.TheVariants.{Kept, Violated, Unplaced}
 use Rattle.verdicts.specs.declared.verdict.BlockVerdict.{BlockVerdict}
 
+-- the number of a register whose kind has the numbers from `first` on
+abbrev pub bank_number : {bits : ℕ} → ℕ → Banked RegisterNumber bits → ℕ
+bank_number first (banked.Static n) = first + n.number
+bank_number first (banked.Rotating n) = first + 32 + n.number
+
 abbrev pub general_number : General → ℕ
-general_number (banked.Static n) = n.number
-general_number (banked.Rotating n) = 32 + n.number
+general_number = bank_number 0
 
 abbrev pub predicate_number : Predicate → ℕ
-predicate_number (banked.Static n) = 64 + n.number
-predicate_number (banked.Rotating n) = 96 + n.number
+predicate_number = bank_number 64
 
 abbrev pub register_number : Register → ℕ
 register_number (register.General g) = general_number g

@@ -1,9 +1,9 @@
 // One verdict as six numbers.
-ghost use Rattle.std.specs.Prelude.{◌≡◌};
-ghost use Rattle.blockcheck_c.specs.Numbers.{general_number, predicate_number, register_number, place_number, kind_number, row_of};
+ghost use Rattle.std.specs.Prelude.{◌≡◌, ◌≤◌};
+ghost use Rattle.blockcheck_c.specs.Numbers.{bank_number, register_number, place_number, kind_number, row_of};
 
 use operations::Dependence;
-use registers::{General, Place, Predicate, Register};
+use registers::{Banked, Place, Register, RegisterNumber};
 use verdicts::{BlockVerdict, Standing};
 
 // C is handed numbers for places and kinds: r0 to r31, rr0 to rr31, p0 to p31, rp0 to rp31 from 0 up; then the memory, and no place.
@@ -13,21 +13,14 @@ const MEMORY: u32 = 128;
 
 const NO_PLACE: u32 = 129;
 
-fn general_number(register: General) -> u32
-    ensures { result ≡ general_number register }
+// The number of a register whose kind has the numbers from `first` on.
+fn bank_number<const BITS: usize>(first: u32, register: Banked<RegisterNumber, BITS>) -> u32
+    requires { first ≤ 64 }
+    ensures { result ≡ bank_number first register.entry }
 {
     match register {
-        General::Static(n) => u32::from(n.get()),
-        General::Rotating(n) => BANK + u32::from(n.get()),
-    }
-}
-
-fn predicate_number(register: Predicate) -> u32
-    ensures { result ≡ predicate_number register }
-{
-    match register {
-        Predicate::Static(n) => 2 * BANK + u32::from(n.get()),
-        Predicate::Rotating(n) => 3 * BANK + u32::from(n.get()),
+        Banked::Static(n) => first + u32::from(n.get()),
+        Banked::Rotating(n) => first + BANK + u32::from(n.get()),
     }
 }
 
@@ -35,8 +28,8 @@ fn register_number(register: Register) -> u32
     ensures { result ≡ register_number register }
 {
     match register {
-        Register::General(g) => general_number(g),
-        Register::Predicate(p) => predicate_number(p),
+        Register::General(g) => bank_number(0, g),
+        Register::Predicate(p) => bank_number(2 * BANK, p),
     }
 }
 

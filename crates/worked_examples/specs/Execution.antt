@@ -1,8 +1,7 @@
 -- Operations executed one after the other on registers. Assumes nothing.
-use Rattle.std.specs.Prelude.{ℕ, Bool, false, replicate, Some, None, Option, slice_index, slice_index_or, slice_set}
+use Rattle.std.specs.Prelude.{ℕ, Bool, false, replicate, Some, None, Option}
 use Rattle.std.specs.Option.{unwrap_or}
 use Rattle.opcodes.specs.Words.{word}
-use Rattle.registers.specs.declared.banked.Banked.TheVariants as banked
 use Rattle.registers.specs.declared.write.Write.{Write}
 use Rattle.registers.specs.declared.write.Write.TheVariants.{Word, Bit}
 use Rattle.registers.specs.Registers.{General, Predicate, general_constant, predicate_constant}
@@ -13,6 +12,7 @@ use Rattle.operations.specs.Access.{sources_of}
 use Rattle.operations.specs.Effects.{effect_of}
 use Rattle.operations.specs.declared.operation.Source.{Source}
 use Rattle.operations.specs.declared.operation.Source.TheVariants as source
+use Rattle.worked_examples.specs.Banks.{cell, with_cell}
 use Rattle.worked_examples.specs.declared.state.State.{State}
 
 abbrev pub cleared : State
@@ -21,20 +21,12 @@ cleared = record {
   bits = record { fixed = replicate 32 false; rotating = replicate 32 false };
 }
 
-abbrev word_cell : State → General → ℕ
-word_cell s (banked.Static n) = slice_index s.words.fixed n.number
-word_cell s (banked.Rotating n) = slice_index s.words.rotating n.number
-
-abbrev bit_cell : State → Predicate → Bool
-bit_cell s (banked.Static n) = slice_index_or s.bits.fixed n.number false
-bit_cell s (banked.Rotating n) = slice_index_or s.bits.rotating n.number false
-
 -- what a register reads: its constant, or what it holds
 abbrev pub word_in : State → General → ℕ
-word_in s g = unwrap_or (general_constant g) (word_cell s g)
+word_in s g = unwrap_or (general_constant g) (cell 0 s.words g)
 
 abbrev pub bit_in : State → Predicate → Bool
-bit_in s p = unwrap_or (predicate_constant p) (bit_cell s p)
+bit_in s p = unwrap_or (predicate_constant p) (cell false s.bits p)
 
 abbrev pub source_in : State → Option Source → ℕ
 source_in s None = 0
@@ -54,7 +46,5 @@ writes_in (effect.Store a v) = (None, None)
 -- after a write
 abbrev pub applied : State → Option Write → State
 applied s None = s
-applied s (Some (Word (banked.Static n) v)) = record s { words = record s.words { fixed = slice_set s.words.fixed n.number v } }
-applied s (Some (Word (banked.Rotating n) v)) = record s { words = record s.words { rotating = slice_set s.words.rotating n.number v } }
-applied s (Some (Bit (banked.Static n) b)) = record s { bits = record s.bits { fixed = slice_set s.bits.fixed n.number b } }
-applied s (Some (Bit (banked.Rotating n) b)) = record s { bits = record s.bits { rotating = slice_set s.bits.rotating n.number b } }
+applied s (Some (Word to v)) = record s { words = with_cell s.words to v }
+applied s (Some (Bit to b)) = record s { bits = with_cell s.bits to b }

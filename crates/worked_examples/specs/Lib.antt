@@ -1,3 +1,4 @@
+pub mod Banks
 pub mod Execution
 pub mod Schedules
 pub mod Table

@@ -1,6 +1,7 @@
 // Works examples in written order, and prints each operation with what it wrote.
 #![tactic(auto)]
 
+mod bank;
 mod examples;
 mod state;
 mod table;

@@ -2,15 +2,9 @@
 ghost use Rattle.std.specs.Prelude.{◌≡◌};
 ghost use Rattle.worked_examples.specs.Execution.{word_in, bit_in, source_in, effect_in, writes_in, applied, cleared};
 
+use crate::bank::Bank;
 use operations::{Effect, Operation, Source};
 use registers::{General, Predicate, Write};
-
-// What the registers of a kind hold, by number.
-#[derive(Clone, Copy)]
-pub struct Bank<T> {
-    pub fixed: [T; 32],
-    pub rotating: [T; 32],
-}
 
 #[derive(Clone, Copy)]
 pub struct State {
@@ -38,19 +32,13 @@ impl State {
     pub fn word(&self, g: General) -> u32
         ensures { result ≡ word_in self.now g }
     {
-        g.constant().unwrap_or_else(|| match g {
-            General::Static(n) => self.words.fixed[usize::from(n.get())],
-            General::Rotating(n) => self.words.rotating[usize::from(n.get())],
-        })
+        g.constant().unwrap_or_else(|| self.words.get(g))
     }
 
     pub fn bit(&self, p: Predicate) -> bool
         ensures { result ≡ bit_in self.now p }
     {
-        p.constant().unwrap_or_else(|| match p {
-            Predicate::Static(n) => self.bits.fixed[usize::from(n.get())],
-            Predicate::Rotating(n) => self.bits.rotating[usize::from(n.get())],
-        })
+        p.constant().unwrap_or_else(|| self.bits.get(p))
     }
 
     // What a source gives; 0 where the operation has no such source.
@@ -80,14 +68,8 @@ impl State {
     {
         if let Some(write) = write {
             match write {
-                Write::Word { to, value } => match to {
-                    General::Static(n) => self.words.fixed[usize::from(n.get())] = value,
-                    General::Rotating(n) => self.words.rotating[usize::from(n.get())] = value,
-                },
-                Write::Bit { to, value } => match to {
-                    Predicate::Static(n) => self.bits.fixed[usize::from(n.get())] = value,
-                    Predicate::Rotating(n) => self.bits.rotating[usize::from(n.get())] = value,
-                },
+                Write::Word { to, value } => self.words.set(to, value),
+                Write::Bit { to, value } => self.bits.set(to, value),
             }
         }
     }
