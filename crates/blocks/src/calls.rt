@@ -41,7 +41,7 @@ impl Blocks {
         found.add(operation)
     }
 
-    // Places an operation of the block, or moves it.
+    // Places an operation of the block, or moves it. Cycle and slot are any numbers here: a `Position` has only those that there are.
     pub fn place(&mut self, block: u8, operation: u8, cycle: u16, slot: u8) -> Result<(), Refusal>
         ensures { Did (state_of self.old) (state_of self.new) result (place_call (state_of self.old) block operation cycle slot) }
     {

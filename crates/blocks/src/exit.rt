@@ -16,7 +16,8 @@ pub enum Exit {
     Loop(BlockNumber),
 }
 
-// An exit as it is handed in, before anything is known of it.
+// An exit as it is handed in, before anything is known of it. One enum for this, `Exit` and the written exits would be generic in
+// two types and could have no methods where each is used: a crate gives none to the type of another.
 #[derive(Clone, Copy)]
 pub enum RawExit {
     Halt,

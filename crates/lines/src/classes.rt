@@ -6,7 +6,7 @@ ghost use Rattle.lines.specs.Said.{Whole};
 use crate::words::after_word;
 use crate::written::Classes;
 
-// Whether `letter` is the front of `text`, and what follows it then.
+// Whether `letter` is the front of `text`, and the text to read on from: that is all of it where the letter is not there, so this is no Option.
 fn letter<'a>(text: &'a [u8], letter: &[u8]) -> (bool, &'a [u8])
     ensures found { text.now ≡ cond result.0 letter.now [] ++ result.1.now }
     ensures missed { result.0 ≡ false → (rest : List ℕ) → text.now ≢ letter.now ++ rest }

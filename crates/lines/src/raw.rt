@@ -25,7 +25,7 @@ impl WrittenRegister {
     }
 }
 
-// Destinations as they are handed in.
+// Destinations as they are handed in. A `map` of `UpToTwo` would be a public function with a `requires`, and there is none here.
 fn destinations(written: UpToTwo<WrittenRegister>) -> UpToTwo<RegisterName>
     ensures { result ≡ raw_destinations written }
 {

@@ -14,7 +14,7 @@ pub enum WrittenRegister {
     Predicate(WrittenPredicate),
 }
 
-// An exit to any block, of which there may be none.
+// An exit to any block, of which there may be none. An enum of its own beside `RawExit`, and so below, for the methods that it has here.
 #[derive(Clone, Copy)]
 pub enum WrittenExit {
     Halt,

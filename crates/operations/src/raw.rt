@@ -12,6 +12,7 @@ pub enum Opcode {
     Store,
 }
 
+// An enum of its own beside `Source`: a literal of either kind means the same, but one enum over the registers' types would name neither.
 #[derive(Clone, Copy, Debug)]
 pub enum Operand {
     Register(RegisterName),

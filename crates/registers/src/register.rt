@@ -78,6 +78,7 @@ impl General {
     }
 }
 
+// One line in `place`, as in `write`, differs from that of a general register: its case of `Register`, and of `Write`.
 impl Predicate {
     // What it always reads, where that is fixed: p0 reads 0 and p1 reads 1.
     pub fn constant(self) -> Option<bool>

@@ -75,6 +75,7 @@ fn add(
     place(blocks, block, number, position)
 }
 
+// A line may stand in a block that is open alone: `let .. else` tells that case of the stage, which is no Option, from the others.
 impl Loading {
     fn block(&mut self, number: u64) -> Result<(), Refusal>
         ensures { MatchResult result (λ _. block_line (reading_of self.old) number ≡ Ok (reading_of self.new)) (λ e. block_line (reading_of self.old) number ≡ Err e) }

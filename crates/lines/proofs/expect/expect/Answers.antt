@@ -9,4 +9,4 @@ returns-in_err-next g c = none_read _ _ _ _ c.from_residual.ensures c.in_err-nex
 pub returns : goal.returns
 returns g c =
     one_read _ _ _ _ (item_token c.in_ok-next.field-0) c.in_ok-next.ensures.sound c.in_ok-next.ensures.complete
-      (λ x. let p = c.from_token.ensures x in (λ e. sym c.token.ensures ∙ p.0 e, λ e. p.1 (c.token.ensures ∙ e)))
+    (λ x. let p = c.from_token.ensures x in (λ e. sym c.token.ensures ∙ p.0 e, λ e. p.1 (c.token.ensures ∙ e)))

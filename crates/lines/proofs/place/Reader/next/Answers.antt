@@ -27,7 +27,7 @@ returns c =
       };
       sound =
           subst (λ k. TokenAt (drop at L) k (drop (at + (length text - length rest)) L)) (sym c.new.ensures.says)
-            (subst (λ t. TokenAt t c.in_ok-token.token (drop (at + (length text - length rest)) L)) c.rest-text.ensures (subst (λ r. TokenAt text c.in_ok-token.token r) (sym behind) told.sound));
+          (subst (λ t. TokenAt t c.in_ok-token.token (drop (at + (length text - length rest)) L)) c.rest-text.ensures (subst (λ r. TokenAt text c.in_ok-token.token r) (sym behind) told.sound));
       complete = λ k r h.
           let p = told.complete k r (subst (λ t. TokenAt t k r) (sym c.rest-text.ensures) h) in
           (c.new.ensures.says ∙ p.0, behind ∙ p.1);
