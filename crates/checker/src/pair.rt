@@ -4,43 +4,16 @@ ghost use Rattle.std.specs.Prelude.{◌≡◌, MatchOption};
 ghost use Rattle.std.specs.Bool.{then_some};
 ghost use Rattle.operations.specs.declared.refusal.Dependence.TheVariants.{Memory};
 
-use crate::dependence::broken;
+use crate::dependence::Pair;
 use crate::placed::Placed;
 use operations::Dependence;
 use registers::{Place, Register};
-
-fn at_register(x: Register, earlier: &Placed, later: &Placed) -> Option<Dependence>
-    ensures { MatchOption result (Unbroken x earlier.now later.now) (λ k. Breaks k (Place.Register x) earlier.now later.now) }
-{
-    let place = Place::Register(x);
-    if broken(Dependence::Flow, place, earlier, later) {
-        Some(Dependence::Flow)
-    } else if broken(Dependence::Anti, place, earlier, later) {
-        Some(Dependence::Anti)
-    } else if broken(Dependence::Output, place, earlier, later) {
-        Some(Dependence::Output)
-    } else {
-        None
-    }
-}
 
 // A dependence, and the place at which it is broken.
 #[derive(Clone, Copy)]
 pub(crate) struct Break {
     pub dependence: Dependence,
     pub place: Place,
-}
-
-fn at_part(part: Option<Place>, earlier: &Placed, later: &Placed) -> Option<Break>
-    ensures { MatchOption result (PartKept part earlier.now later.now) (λ k. Breaks k.dependence k.place earlier.now later.now) }
-{
-    match part? {
-        Place::Register(x) => Some(Break {
-            dependence: at_register(x, earlier, later)?,
-            place: Place::Register(x),
-        }),
-        Place::Memory => None,
-    }
 }
 
 // What it writes and reads, part by part.
@@ -58,20 +31,50 @@ fn parts(a: &Placed) -> [Option<Place>; 7]
     ]
 }
 
-fn in_memory(earlier: &Placed, later: &Placed) -> Option<Break>
-    ensures { result ≡ then_some (broken Memory Place.Memory earlier.now later.now) (record { dependence = Memory; place = Place.Memory }) }
-{
-    broken(Dependence::Memory, Place::Memory, earlier, later).then_some(Break {
-        dependence: Dependence::Memory,
-        place: Place::Memory,
-    })
-}
+impl<'a> Pair<'a> {
+    fn at_register(self, x: Register) -> Option<Dependence>
+        ensures { MatchOption result (Unbroken x self.entry.earlier.now self.entry.later.now) (λ k. Breaks k (Place.Register x) self.entry.earlier.now self.entry.later.now) }
+    {
+        let place = Place::Register(x);
+        if self.breaks(Dependence::Flow, place) {
+            Some(Dependence::Flow)
+        } else if self.breaks(Dependence::Anti, place) {
+            Some(Dependence::Anti)
+        } else if self.breaks(Dependence::Output, place) {
+            Some(Dependence::Output)
+        } else {
+            None
+        }
+    }
 
-// A dependence of `later` on `earlier` that is broken, where there is one.
-pub(crate) fn pair(earlier: &Placed, later: &Placed) -> Option<Break>
-    ensures { MatchOption result (PairKept earlier.now later.now) (λ k. Breaks k.dependence k.place earlier.now later.now) }
-{
-    let parts = parts(earlier);
-    let found = parts.iter().find_map(|&part| at_part(part, earlier, later));
-    found.or_else(|| in_memory(earlier, later))
+    fn at_part(self, part: Option<Place>) -> Option<Break>
+        ensures { MatchOption result (PartKept part self.entry.earlier.now self.entry.later.now) (λ k. Breaks k.dependence k.place self.entry.earlier.now self.entry.later.now) }
+    {
+        match part? {
+            Place::Register(x) => Some(Break {
+                dependence: self.at_register(x)?,
+                place: Place::Register(x),
+            }),
+            Place::Memory => None,
+        }
+    }
+
+    fn in_memory(self) -> Option<Break>
+        ensures { result ≡ then_some (broken Memory Place.Memory self.entry.earlier.now self.entry.later.now) (record { dependence = Memory; place = Place.Memory }) }
+    {
+        self.breaks(Dependence::Memory, Place::Memory)
+            .then_some(Break {
+                dependence: Dependence::Memory,
+                place: Place::Memory,
+            })
+    }
+
+    // A dependence of `later` on `earlier` that is broken, where there is one.
+    pub(crate) fn first_broken(self) -> Option<Break>
+        ensures { MatchOption result (PairKept self.entry.earlier.now self.entry.later.now) (λ k. Breaks k.dependence k.place self.entry.earlier.now self.entry.later.now) }
+    {
+        let parts = parts(self.earlier);
+        let found = parts.iter().find_map(|&part| self.at_part(part));
+        found.or(self.in_memory())
+    }
 }

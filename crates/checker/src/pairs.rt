@@ -2,8 +2,7 @@
 ghost use Rattle.std.specs.Prelude.{◌<◌, ◌≤◌, length, MatchOption};
 ghost use Rattle.checker.specs.Pairs.{KeptAt, KeptFrom, AllKept, Found};
 
-use crate::dependence::least;
-use crate::pair::pair;
+use crate::dependence::Pair;
 use crate::placed::Placed;
 use operations::Violation;
 
@@ -12,15 +11,17 @@ fn between(placed: &[Placed], i: usize, j: usize, last: u8) -> Option<Violation>
     requires { (i < j) × (j < length placed.now) × (length placed.now ≤ 64) }
     ensures { MatchOption result (KeptAt placed.now i j) (λ v. Found last placed.now v) }
 {
-    let earlier = &placed[i];
-    let later = &placed[j];
-    let found = pair(earlier, later)?;
+    let pair = Pair {
+        earlier: &placed[i],
+        later: &placed[j],
+    };
+    let found = pair.first_broken()?;
     Some(Violation {
         dependence: found.dependence,
         place: found.place,
         first: i as u8,
         second: j as u8,
-        least: least(found.dependence, earlier, later, last),
+        least: pair.least(found.dependence, last),
     })
 }
 
