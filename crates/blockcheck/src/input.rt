@@ -11,6 +11,7 @@ const MOST: usize = LIMIT + 8 + LIMIT;
 // All of the input; None where there is more than two texts may have. At most one byte more than that is read.
 pub(crate) fn read(rt: &HostRuntime) -> anyhow::Result<Option<Vec<u8>>> {
     let mut all = Vec::new(rt.alloc());
+    // `as`, for std has no `From` of a `usize` for `u64`.
     rt.stdin().take(MOST as u64 + 1).read_to_end(&mut all)?;
     if all.len() > MOST {
         return Ok(None);

@@ -12,6 +12,7 @@ pub(crate) fn numbers(heap: Global, all: &[BlockVerdict]) -> Result<Vec<u32>, Al
     ensures { IfOk result (λ v. v.items ≡ numbers_of all.now) }
 {
     let mut numbers = Vec::new(heap);
+    // `as`, for the length is proved to fit.
     numbers.push(all.len() as u32)?;
     // A `flat_map` over arrays has no fact of the whole list, so this is a loop.
     for verdict in all {

@@ -38,6 +38,7 @@ impl RawExit {
     pub(crate) fn typed(self, block: u8) -> Option<Exit>
         ensures { result ≡ exit_for block self }
     {
+        // A test of its own: nothing is handed on.
         if block >= LAST && self.goes_on() {
             return None;
         }

@@ -81,6 +81,7 @@ impl Block {
             operation,
             position: None,
         });
+        // `as`, for the count is proved to fit: after `try_from` an error would be left that cannot come.
         Ok(count as u8)
     }
 

@@ -36,6 +36,7 @@ impl<'a> Pair<'a> {
         ensures { MatchOption result (Unbroken x self.entry.earlier.now self.entry.later.now) (λ k. Breaks k (Place.Register x) self.entry.earlier.now self.entry.later.now) }
     {
         let place = Place::Register(x);
+        // A chain of tests: a search through an array of the three would name each once more.
         if self.breaks(Dependence::Flow, place) {
             Some(Dependence::Flow)
         } else if self.breaks(Dependence::Anti, place) {

@@ -16,6 +16,7 @@ fn between(placed: &[Placed], i: usize, j: usize, last: u8) -> Option<Violation>
         later: &placed[j],
     };
     let found = pair.first_broken()?;
+    // `as`, for the numbers of operations are proved to fit.
     Some(Violation {
         dependence: found.dependence,
         place: found.place,

@@ -58,6 +58,7 @@ pub(crate) fn all_placed(
 {
     let mut all = [nothing(); 64];
     for (i, entry) in entries.iter().enumerate() {
+        // `as`, for the number of an operation is proved to fit.
         all[i] = placed(description, entry).ok_or(Refusal::Unplaced(i as u8))?;
     }
     Ok(all)

@@ -34,6 +34,7 @@ pub(crate) fn number<'a>(text: &'a [u8]) -> Option<(u64, &'a [u8])>
     ensures { Begins (Number text.now) result }
 {
     let n = digit_count(text);
+    // Two tests of their own: nothing is handed on.
     if n > MOST_DIGITS || n == 0 {
         return None;
     }

@@ -12,7 +12,7 @@ use crate::operation::operation;
 use crate::place::Reader;
 use crate::written::{ProgramLine, WrittenExit, WrittenPosition};
 
-// The cycle and the slot of an operation, or that it has none.
+// The cycle and the slot of an operation, or that it has none: the outer Option says whether they could be read.
 fn position(reader: &mut Reader) -> Option<Option<WrittenPosition>>
     ensures { Reads position_text ShortPosition (left reader.old) result (left reader.new) }
 {

@@ -15,6 +15,7 @@ impl<'a> Flat<'a> {
     fn index(&self, address: u32) -> Result<usize, Refusal>
         ensures { result ≡ loaded (flat_has self.now.words.now address) (address / 4) }
     {
+        // `as`, for std has no `From` of a `u32` for `usize`; it is proved to fit.
         let index = (address / 4) as usize;
         if address % 4 != 0 || index >= self.words.len() {
             return Err(Refusal::NoSuchWord);

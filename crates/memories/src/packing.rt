@@ -15,6 +15,7 @@ pub fn find(sections: &[Section], room: usize, address: u32) -> Option<usize>
     ensures is { result ≡ index sections.now room address }
     ensures below { (k : ℕ) → result ≡ Some k → k < room }
 {
+    // Tests of their own, here and below; no `then_some`, for that the sum fits is known only where the test holds.
     if address % 4 != 0 {
         return None;
     }
@@ -23,6 +24,7 @@ pub fn find(sections: &[Section], room: usize, address: u32) -> Option<usize>
     let mut base: usize = 0;
     for s in sections {
         if holds_word(s, word) {
+            // `as`, here and below, for std has no `From` between `usize` and these; they are proved to fit.
             let place = (word - s.offset / 4) as usize;
             return if place < room - base {
                 Some(base + place)

@@ -8,6 +8,7 @@ use crate::section::Section;
 fn end_after(s: &Section, low: u64) -> Option<u64>
     ensures { result ≡ end_after s.now low }
 {
+    // No `then_some`: that the sum fits is known only where the test holds.
     if s.is_right() && low <= u64::from(s.offset) {
         Some(u64::from(s.offset) + s.length)
     } else {
@@ -29,6 +30,7 @@ pub fn in_order(sections: &[Section]) -> bool
 pub fn has_room(sections: &[Section], room: usize) -> bool
     ensures { result ≡ nat_le (word_count sections.now) room }
 {
+    // `as`, for std has no `From` of a `usize` for `u64`.
     sections
         .iter()
         .try_fold(room as u64, |left, s| left.checked_sub(s.length / 4))

@@ -14,6 +14,7 @@ const BLOCKS: u8 = 16;
 pub fn print_block(heap: Global, blocks: &Blocks, block: u8) -> Result<Option<String>, AllocError>
     ensures { IfOk result (λ o. MatchOption o (16 ≤ block) (λ t. BlockPrinted (state_of blocks.now) block (string_bytes t))) }
 {
+    // No `?`: where there is no such block the answer is good.
     let Some(contents) = Contents::of(blocks, block) else {
         return Ok(None);
     };
@@ -27,6 +28,7 @@ pub fn print_set(heap: Global, blocks: &Blocks) -> Result<String, AllocError>
     ensures { IfOk result (λ t. SetPrinted (state_of blocks.now) (string_bytes t)) }
 {
     let mut out = String::new(heap);
+    // By number: it is printed, and the blocks are handed out by it.
     for block in 0..BLOCKS {
         let Some(contents) = Contents::of(blocks, block) else {
             continue;

@@ -14,6 +14,7 @@ fn newline(text: &[u8]) -> Option<usize>
 pub fn cut_line<'a>(text: &'a [u8]) -> Option<(&'a [u8], &'a [u8])>
     ensures { MatchOption result (text.now ≡ []) (λ x. (lines_of text.now ≡ x.0.now ∷ lines_of x.1.now) × (length x.1.now < length text.now)) }
 {
+    // A test of its own: nothing is handed on.
     if text.is_empty() {
         return None;
     }

@@ -47,6 +47,7 @@ fn place(
     ensures { MatchResult result (λ _. placed_at (state_of blocks.old) block operation position ≡ Ok (tt, state_of blocks.new)) (λ e. placed_at (state_of blocks.old) block operation position ≡ Err e) }
 {
     match position {
+        // `as`, for after `min` they are proved to fit.
         Some(position) => blocks.place(
             block,
             operation,
@@ -83,7 +84,7 @@ impl Loading {
         if !self.stage.above(number) {
             return Err(Refusal::Unreadable);
         }
-        // With `try_from` the bound would still have to be tested.
+        // With `try_from` the bound would still have to be tested; below it the number is proved to fit.
         if number >= BLOCKS {
             return Err(Refusal::NoSuch);
         }
