@@ -57,24 +57,13 @@ impl Part {
             }
             (Part::Slots(slots), DescriptionLine::Integer(written)) => {
                 let integer = bounds(written)?;
-                Ok(Part::Integer { slots, integer })
+                Ok(Part::Integer(slots, integer))
             }
-            (Part::Integer { slots, integer }, DescriptionLine::Load(written)) => {
+            (Part::Integer(slots, integer), DescriptionLine::Load(written)) => {
                 let load = bounds(written)?;
-                Ok(Part::Load {
-                    slots,
-                    integer,
-                    load,
-                })
+                Ok(Part::Load(slots, integer, load))
             }
-            (
-                Part::Load {
-                    slots,
-                    integer,
-                    load,
-                },
-                DescriptionLine::Compare(written),
-            ) => {
+            (Part::Load(slots, integer, load), DescriptionLine::Compare(written)) => {
                 let compare = bounds(written)?;
                 Ok(Part::All(Description {
                     slots,
@@ -93,7 +82,7 @@ impl Part {
     {
         match self {
             Part::All(description) => Some(description),
-            Part::Nothing | Part::Slots(_) | Part::Integer { .. } | Part::Load { .. } => None,
+            _ => None,
         }
     }
 }

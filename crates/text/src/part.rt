@@ -5,14 +5,9 @@ use blocks::{Bounds, Description, Slots};
 pub(crate) enum Part {
     Nothing,
     Slots(Slots),
-    Integer {
-        slots: Slots,
-        integer: Bounds,
-    },
-    Load {
-        slots: Slots,
-        integer: Bounds,
-        load: Bounds,
-    },
+    // With the bounds of the integer opcodes.
+    Integer(Slots, Bounds),
+    // With those of loads behind them.
+    Load(Slots, Bounds, Bounds),
     All(Description),
 }
