@@ -8,7 +8,7 @@ FORMS = [
     ("1a", "a `let .. else` that gives up with None, Err, 0 or nothing", r"else \{\s*return(?: None| Err\([^;]*\)| Ok\(None\)| Ok\(\(\)\)| 0)?;\s*\}"),
     ("1b", "an `if` that gives up with None", r"if [^{;]*\{\s*return None;\s*\}"),
     ("1c", "an arm that hands on None, an Err or an Ok", r"None => (?:return )?None\b|Err\(\w+\) => (?:return )?Err\(|Ok\(\(\)\) => Ok\(\(\)\)|if let Err\(\w+\)"),
-    ("1d", "an `if` that chooses between Some and None", r"if [^{;]*\{\s*(?:Some\([^;{}]*\)|None)\s*\} else \{\s*(?:Some\([^;{}]*\)|None)\s*\}"),
+    ("1d", "an `if` that chooses between Some and None", r"if [^{;]*\{\s*(?:Some\((?:[^;{}]|\{[^{}]*\})*\)|None)\s*\} else \{\s*(?:Some\((?:[^;{}]|\{[^{}]*\})*\)|None)\s*\}"),
     ("1e", "a pair of a Result and a value, or an Option in an Option", r"-> \(Result<[^;{]*\)\n|Option<Option<"),
     ("1f", "a number where nothing is computed", r"\{\n    0\n\}"),
     ("3a", "a `for` over numbers", r"\bfor \w+ in [^{]*\.\."),

@@ -32,7 +32,8 @@ impl Blocks {
         })
     }
 
-    // Adds an operation, not yet placed, behind the others of the block, and answers its number.
+    // Adds an operation, not yet placed, behind the others of the block, and answers its number. The block is looked up here and in the
+    // three calls below, for a method that lends it would hold back the description, which `place` reads meanwhile.
     pub fn add(&mut self, block: u8, operation: RawOperation) -> Result<u8, Refusal>
         ensures { Did (state_of self.old) (state_of self.new) result (add_call (state_of self.old) block operation) }
     {

@@ -10,7 +10,7 @@ use operations::{Class, Form, Operation, Refusal};
 const LONGEST: u8 = 31;
 
 // How many slots there may be.
-const SLOTS: u8 = 8;
+pub const SLOTS: u8 = 8;
 
 impl Slot {
     // A slot that takes these classes, if there is one among them.

@@ -5,7 +5,7 @@ ghost use Rattle.blocks.specs.Exits.{raw_goes_on, exit_named, exit_for};
 use crate::exit::{BlockNumber, Exit, RawExit};
 
 // How many blocks there are.
-pub(crate) const BLOCKS: u8 = 16;
+pub const BLOCKS: u8 = 16;
 
 // The number of the last block.
 const LAST: u8 = 15;

@@ -17,7 +17,7 @@ use std::alloc::{AllocError, Global};
 const OPERATIONS: usize = 64;
 
 // How many cycles a block may take.
-const CYCLES: u16 = 1024;
+pub const CYCLES: u16 = 1024;
 
 impl Position {
     fn at(cycle: u16, slot: u8) -> Position
@@ -45,7 +45,8 @@ fn occupied(entries: &[Entry], own: usize, position: Position) -> bool
         .any(|(k, entry)| k != own && is_at(entry, position))
 }
 
-// The refusal of an operation for a block that may be full as well: the one whose row is above.
+// The refusal of an operation for a block that may be full as well: the one whose row is above. By the numbers of the rows, for a
+// derived order of so many cases would tell a proof nothing.
 fn topmost(refusal: Refusal, full: bool) -> Refusal
     ensures { result ≡ topmost refusal full }
 {

@@ -15,6 +15,9 @@ mod reading;
 mod tests;
 
 pub use blocks::Blocks;
+pub use describing::SLOTS;
 pub use description::{Bounds, Description, Slot, Slots};
 pub use exit::{BlockNumber, Exit, RawExit};
+pub use exits::BLOCKS;
+pub use filling::CYCLES;
 pub use position::{Entry, Position};

@@ -4,7 +4,7 @@ ghost use Rattle.blocks.specs.Machine.{slots_of};
 ghost use Rattle.blocks.specs.Whole.{state_of};
 ghost use Rattle.checker.specs.Checks.{Judged, Checked};
 
-use crate::pairs::first_broken;
+use crate::schedule::Schedule;
 use crate::seeing::all_placed;
 use crate::verdict::Verdict;
 use blocks::{Blocks, Description, Entry};
@@ -15,8 +15,11 @@ fn judge(description: &Description, entries: &[Entry]) -> Result<Verdict, Refusa
     ensures { Judged description.now entries.now result }
 {
     let all = all_placed(description, entries)?;
-    let last = description.slots.count - 1;
-    let found = first_broken(&all[..entries.len()], last);
+    let schedule = Schedule {
+        placed: &all[..entries.len()],
+        last: description.slots.count - 1,
+    };
+    let found = schedule.first_broken();
     Ok(found.map_or(Verdict::Kept, Verdict::Violated))
 }
 

@@ -6,6 +6,7 @@ mod dependence;
 mod pair;
 mod pairs;
 mod placed;
+mod schedule;
 mod seeing;
 #[cfg(test)]
 mod tests;

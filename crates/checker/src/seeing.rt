@@ -25,7 +25,8 @@ fn placed(description: &Description, entry: &Entry) -> Option<Placed>
     })
 }
 
-// Stands where there is no operation: check uses no heap, so that a fixed array holds them, the first as many as the block has.
+// Stands where there is no operation: check uses no heap, so that a fixed array holds them, the first as many as the block has. An
+// `ArrayVec` would want this too, as the `Default` of a placed operation.
 fn nothing() -> Placed {
     Placed {
         reads: Reads {
@@ -58,7 +59,7 @@ pub(crate) fn all_placed(
 {
     let mut all = [nothing(); 64];
     for (i, entry) in entries.iter().enumerate() {
-        // `as`, for the number of an operation is proved to fit.
+        // By number: after a loop over `iter_mut` a proof knows the length alone. `as`, for the number is proved to fit.
         all[i] = placed(description, entry).ok_or(Refusal::Unplaced(i as u8))?;
     }
     Ok(all)

@@ -25,8 +25,8 @@ impl Latencies for Stepped {
 
     fn ask(&self, operation: u8, bounds: Bounds) -> u8 {
         let many = u64::from(bounds.longest - bounds.shortest) + 1;
-        // `as`, for of a number behind a reference `u64::from` does not show that it is below 2^32.
-        let step = (self.turns as u64 + operation as u64) % many;
+        // `as` of the turns, for of a number behind a reference `u64::from` does not tell that it is below 2^32; of the step, for it is proved to fit.
+        let step = (self.turns as u64 + u64::from(operation)) % many;
         bounds.shortest + step as u8
     }
 

@@ -14,7 +14,8 @@ pub enum WrittenRegister {
     Predicate(WrittenPredicate),
 }
 
-// An exit to any block, of which there may be none. An enum of its own beside `RawExit`, and so below, for the methods that it has here.
+// An exit to any block, of which there may be none. As with the registers above and the operands below, an enum of its own beside what
+// is handed in: a generic one would have its methods in the crate below alone, and its derives would owe that any number fits in memory.
 #[derive(Clone, Copy)]
 pub enum WrittenExit {
     Halt,
@@ -48,6 +49,7 @@ pub struct WrittenOperation {
     pub sources: WrittenSources,
 }
 
+// Any numbers: a `Position` has only those that there are, and `Bounds` likewise below.
 #[derive(Clone, Copy)]
 pub struct WrittenPosition {
     pub cycle: u64,
@@ -64,6 +66,7 @@ pub enum ProgramLine {
     Exit(WrittenExit),
 }
 
+// Of any slot: a `Slot` of `blocks` takes one class at least, by its type.
 #[derive(Clone, Copy)]
 pub struct Classes {
     pub integer: bool,

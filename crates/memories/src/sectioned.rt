@@ -1,6 +1,8 @@
 // Sections of words, packed one after another in one lent slice.
-ghost use Rattle.std.specs.Prelude.{◌≡◌, ℕ, ◌%◌, true, ◌&&◌, [], ◌∷◌, length, is_ok, IfOk, IfErr, ◌==◌};
-ghost use Rattle.memories.specs.Sections.{covered, sect_has, sect_word, well_formed};
+ghost use Rattle.std.specs.Prelude.{◌≡◌, ℕ, ◌<◌, ◌%◌, Ok, true, ◌&&◌, [], ◌∷◌, length, is_ok, IfOk, IfErr, ◌==◌};
+ghost use Rattle.std.specs.Option.{ok_or};
+ghost use Rattle.operations.specs.declared.refusal.Refusal.TheVariants.{NoSuchWord};
+ghost use Rattle.memories.specs.Sections.{index, covered, sect_has, sect_word, well_formed};
 
 use crate::memory::Memory;
 use crate::packing::find;
@@ -32,6 +34,16 @@ impl<'s, 'w> Sectioned<'s, 'w> {
     }
 }
 
+impl<'s, 'w> Sectioned<'s, 'w> {
+    // The place of the word at an address.
+    fn place(&self, address: u32) -> Result<usize, Refusal>
+        ensures found { result ≡ ok_or (index self.now.sections.now (length self.now.words.now) address) NoSuchWord }
+        ensures below { (k : ℕ) → result ≡ Ok k → k < length self.now.words.now }
+    {
+        find(self.sections, self.words.len(), address).ok_or(Refusal::NoSuchWord)
+    }
+}
+
 impl<'s, 'w> Memory for Sectioned<'s, 'w> {
     ghost has = { λ m a. sect_has m.sections.now m.words.now a };
 
@@ -42,14 +54,12 @@ impl<'s, 'w> Memory for Sectioned<'s, 'w> {
     ghost loan = { λ m. m.words.ghost_name ∷ [] };
 
     fn load(&self, address: u32) -> Result<u32, Refusal> {
-        let found = find(self.sections, self.words.len(), address);
-        let place = found.ok_or(Refusal::NoSuchWord)?;
+        let place = self.place(address)?;
         Ok(self.words[place])
     }
 
     fn store(&mut self, address: u32, value: u32) -> Result<(), Refusal> {
-        let found = find(self.sections, self.words.len(), address);
-        let place = found.ok_or(Refusal::NoSuchWord)?;
+        let place = self.place(address)?;
         self.words[place] = value;
         Ok(())
     }

@@ -108,12 +108,14 @@ impl Operation {
         }
     }
 
+    // The memory for a load; as below, a line that names its own form.
     fn memory_read(&self) -> Option<Place>
         ensures { result ≡ memory_read self.now.form }
     {
         matches!(self.form, Form::Load { .. }).then_some(Place::Memory)
     }
 
+    // The memory for a store.
     fn memory_written(&self) -> Option<Place>
         ensures { result ≡ memory_written self.now.form }
     {

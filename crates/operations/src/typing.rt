@@ -146,7 +146,7 @@ fn clash(p: Predicate, q: Predicate) -> bool
     p.place().is_some() && p == q
 }
 
-// The two destinations of a compare, where they are not one place.
+// The two destinations of a compare, where they are not one place. No `then`: a closure that makes them would have to require this test once more.
 fn unless_one(first: Target, second: Target) -> Option<Targets>
     ensures { result ≡ targets_of first.action second.action (first.to, second.to) }
 {
@@ -190,11 +190,11 @@ impl RawOperation {
                     second,
                 })
             }
-            Opcode::Unary(opcode) => {
-                let to = self.destinations.one()?;
-                let source = self.sources.one()?;
-                Some(Form::Unary { opcode, to, source })
-            }
+            Opcode::Unary(opcode) => Some(Form::Unary {
+                opcode,
+                to: self.destinations.one()?,
+                source: self.sources.one()?,
+            }),
             Opcode::Compare(condition, a, b) => {
                 let targets = self.destinations.targets(a, b)?;
                 let (first, second) = self.sources.two()?;
@@ -205,11 +205,10 @@ impl RawOperation {
                     second,
                 })
             }
-            Opcode::Load => {
-                let to = self.destinations.one()?;
-                let address = self.sources.one()?;
-                Some(Form::Load { to, address })
-            }
+            Opcode::Load => Some(Form::Load {
+                to: self.destinations.one()?,
+                address: self.sources.one()?,
+            }),
             Opcode::Store => {
                 self.destinations.zero()?;
                 let (address, value) = self.sources.two()?;

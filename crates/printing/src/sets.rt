@@ -4,11 +4,8 @@ ghost use Rattle.blocks.specs.Whole.{state_of};
 ghost use Rattle.printing.specs.Printed.{BlockPrinted, SetPrinted};
 
 use crate::writing::Contents;
-use blocks::Blocks;
+use blocks::{BLOCKS, Blocks};
 use std::alloc::{AllocError, Global};
-
-// How many blocks there are.
-const BLOCKS: u8 = 16;
 
 // The block alone, as lines of a program; nothing where there is no such block.
 pub fn print_block(heap: Global, blocks: &Blocks, block: u8) -> Result<Option<String>, AllocError>
@@ -28,7 +25,7 @@ pub fn print_set(heap: Global, blocks: &Blocks) -> Result<String, AllocError>
     ensures { IfOk result (λ t. SetPrinted (state_of blocks.now) (string_bytes t)) }
 {
     let mut out = String::new(heap);
-    // By number: it is printed, and the blocks are handed out by it.
+    // A loop: what a chain of closures has written to the text a proof would not know.
     for block in 0..BLOCKS {
         let Some(contents) = Contents::of(blocks, block) else {
             continue;

@@ -7,7 +7,7 @@ use crate::banked::{Banked, GeneralName, PredicateName};
 use crate::number::RegisterNumber;
 use crate::register::Register;
 
-// One enum for this and `Register` would need both types as parameters: an `Either` by another name.
+// An enum of its own beside `Register`: the derives of one that is generic in the number would owe that any number fits in memory.
 #[derive(Clone, Copy, PartialEq, Eq, Debug)]
 pub enum RegisterName {
     General(GeneralName),

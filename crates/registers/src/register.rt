@@ -22,7 +22,7 @@ pub enum Place {
 }
 
 impl<const LIMIT: u8> NumberBelow<LIMIT> {
-    // The number, where it is below the limit: its ghost field takes the test as it stands.
+    // The number, where it is below the limit. No `then`: a closure that makes a number would have to require this test once more.
     pub fn new(number: u8) -> Option<NumberBelow<LIMIT>>
         ensures { result ≡ numbered number }
     {

@@ -4,7 +4,7 @@ ghost use Rattle.registers.specs.Writes.{word_write, bit_write};
 
 use crate::banked::{General, Predicate};
 
-// A value for a register that is a place.
+// A value for a register that is a place. A case for each kind, since their values are of different types.
 #[derive(Clone, Copy)]
 pub enum Write {
     Word { to: General, value: u32 },

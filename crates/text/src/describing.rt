@@ -8,12 +8,9 @@ ghost use Rattle.text.specs.Views.{described_of};
 
 use crate::part::Part;
 use crate::taking::ByLines;
-use blocks::{Bounds, Description, Slot, Slots};
+use blocks::{Bounds, Description, SLOTS, Slot, Slots};
 use lines::{Classes, DescriptionLine, WrittenBounds, description_line};
 use operations::Refusal;
-
-// How many slots there may be.
-pub(crate) const SLOTS: u64 = 8;
 
 fn bound(written: u64) -> Result<u8, Refusal>
     ensures { MatchResult result (λ n. n ≡ written) (λ e. (e ≡ BeyondLimit) × (31 < written)) }
@@ -34,7 +31,7 @@ fn slot(count: u8, number: u64, classes: Classes) -> Result<Slot, Refusal>
     if number != u64::from(count) {
         return Err(Refusal::Unreadable);
     }
-    if number >= SLOTS {
+    if number >= u64::from(SLOTS) {
         return Err(Refusal::NoSuch);
     }
     Slot::new(classes.integer, classes.memory, classes.compare).ok_or(Refusal::Unreadable)

@@ -1,23 +1,18 @@
 // What the lines of a program do to the blocks.
-ghost use Rattle.std.specs.Prelude.{◌≡◌, ◌<◌, ◌≤◌, Ok, Err, MatchResult};
+ghost use Rattle.std.specs.Prelude.{◌≡◌, ℕ, ◌<◌, ◌≤◌, Ok, Err, Result, MatchResult};
+ghost use Rattle.operations.specs.declared.refusal.Refusal.{Refusal};
+ghost use Rattle.text.specs.declared.stage.Stage.TheVariants.{Open};
 ghost use Rattle.blocks.specs.Whole.{state_of};
 ghost use Rattle.lines.specs.Lines.{IsProgramLine};
-ghost use Rattle.text.specs.Programs.{Reading, above, slot_there, placed_at, operation_call, block_line, operation_line, exit_line, program_step};
+ghost use Rattle.text.specs.Programs.{Reading, in_open, above, slot_there, placed_at, operation_call, block_line, operation_line, exit_line, program_step};
 ghost use Rattle.text.specs.Views.{reading_of};
 
-use crate::describing::SLOTS;
 use crate::loading::Loading;
 use crate::stage::Stage;
 use crate::taking::ByLines;
-use blocks::Blocks;
+use blocks::{BLOCKS, Blocks, CYCLES, SLOTS};
 use lines::{ProgramLine, WrittenExit, WrittenOperation, WrittenPosition, program_line};
 use operations::Refusal;
-
-// How many cycles a block may have.
-const CYCLES: u64 = 1024;
-
-// How many blocks there are.
-const BLOCKS: u64 = 16;
 
 impl Stage {
     // Whether a block of that number may come next.
@@ -27,6 +22,18 @@ impl Stage {
         match self {
             Stage::Start => true,
             Stage::Open(last) | Stage::Ended(last) => number > u64::from(last),
+        }
+    }
+}
+
+impl Stage {
+    // The block that lines are read into.
+    fn open(self) -> Result<u8, Refusal>
+        ensures { MatchResult result (λ b. self ≡ Open b) (λ e. (f : ℕ → Result Reading Refusal) → in_open self f ≡ Err e) }
+    {
+        match self {
+            Stage::Open(block) => Ok(block),
+            Stage::Start | Stage::Ended(_) => Err(Refusal::Unreadable),
         }
     }
 }
@@ -51,8 +58,8 @@ fn place(
         Some(position) => blocks.place(
             block,
             operation,
-            position.cycle.min(CYCLES) as u16,
-            position.slot.min(SLOTS) as u8,
+            position.cycle.min(u64::from(CYCLES)) as u16,
+            position.slot.min(u64::from(SLOTS)) as u8,
         ),
         None => Ok(()),
     }
@@ -76,7 +83,6 @@ fn add(
     place(blocks, block, number, position)
 }
 
-// A line may stand in a block that is open alone: `let .. else` tells that case of the stage, which is no Option, from the others.
 impl Loading {
     fn block(&mut self, number: u64) -> Result<(), Refusal>
         ensures { MatchResult result (λ _. block_line (reading_of self.old) number ≡ Ok (reading_of self.new)) (λ e. block_line (reading_of self.old) number ≡ Err e) }
@@ -85,7 +91,7 @@ impl Loading {
             return Err(Refusal::Unreadable);
         }
         // With `try_from` the bound would still have to be tested; below it the number is proved to fit.
-        if number >= BLOCKS {
+        if number >= u64::from(BLOCKS) {
             return Err(Refusal::NoSuch);
         }
         self.stage = Stage::Open(number as u8);
@@ -99,18 +105,14 @@ impl Loading {
     ) -> Result<(), Refusal>
         ensures { MatchResult result (λ _. operation_line (reading_of self.old) position operation ≡ Ok (reading_of self.new)) (λ e. operation_line (reading_of self.old) position operation ≡ Err e) }
     {
-        let Stage::Open(block) = self.stage else {
-            return Err(Refusal::Unreadable);
-        };
+        let block = self.stage.open()?;
         add(&mut self.blocks, block, position, operation)
     }
 
     fn exit(&mut self, exit: WrittenExit) -> Result<(), Refusal>
         ensures { MatchResult result (λ _. exit_line (reading_of self.old) exit ≡ Ok (reading_of self.new)) (λ e. exit_line (reading_of self.old) exit ≡ Err e) }
     {
-        let Stage::Open(block) = self.stage else {
-            return Err(Refusal::Unreadable);
-        };
+        let block = self.stage.open()?;
         self.blocks.exit(block, exit.raw())?;
         self.stage = Stage::Ended(block);
         Ok(())

@@ -5,13 +5,10 @@ ghost use Rattle.verdicts.specs.Listing.{filled, answer_of, Told};
 ghost use Rattle.verdicts.specs.declared.verdict.Standing.{Standing};
 
 use crate::verdict::{BlockVerdict, Standing};
-use blocks::Blocks;
+use blocks::{BLOCKS, Blocks};
 use checker::{Verdict, check};
 use operations::Refusal;
 use std::alloc::{AllocError, Global};
-
-// How many blocks there are.
-const BLOCKS: u8 = 16;
 
 // Whether the block has operations.
 fn is_filled(blocks: &Blocks, block: u8) -> bool

@@ -1,22 +1,8 @@
 use Rattle.std.proofs.Common.{◌/◌, None, sym, ap, ◌∙◌, arith}
 use Rattle.std.proofs.lemmas.List.{drop_all}
 use Rattle.memories.specs.Sections.{place, under}
-use Rattle.memories.proofs.Packed.{place_here, place_next, past_next, index_is, index_under, under_yes, under_no}
+use Rattle.memories.proofs.Packed.{past_next, index_is, index_under}
 use Rattle.memories.proofs.packing.find.Goals as goal
-
-pub returns-then-place-room : goal.returns-then-place-room
-returns-then-place-room c =
-    let n = c.args.room in
-    let e = place_here _ _ _ _ _ c.loop-s-test.true (sym c.holds_word.ensures ∙ c.if-holds_word.true) in
-    let i = index_is c.args.sections.now n c.args.address _ c.if-address-ne0.false (sym (under_yes n _ (omega arith)) ∙ sym (ap (under n) e) ∙ c.loop-s.invariant.1) in
-    record { is = i; below = index_under c.args.sections.now n c.args.address _ i }
-
-pub returns-else-place-room : goal.returns-else-place-room
-returns-else-place-room c =
-    let n = c.args.room in
-    let e = place_here _ _ _ _ _ c.loop-s-test.true (sym c.holds_word.ensures ∙ c.if-holds_word.true) in
-    let i = index_is c.args.sections.now n c.args.address _ c.if-address-ne0.false (sym (under_no n _ (omega arith)) ∙ sym (ap (under n) e) ∙ c.loop-s.invariant.1) in
-    record { is = i; below = index_under c.args.sections.now n c.args.address _ i }
 
 pub returns-then-s-room : goal.returns-then-s-room
 returns-then-s-room c =
@@ -24,11 +10,6 @@ returns-then-s-room c =
     let e = past_next _ _ _ _ _ n c.loop-s-test.true (sym c.holds_word.ensures ∙ c.if-holds_word.false) (omega arith) in
     let i = index_is c.args.sections.now n c.args.address None c.if-address-ne0.false (sym e ∙ c.loop-s.invariant.1) in
     record { is = i; below = index_under c.args.sections.now n c.args.address None i }
-
-pub loop-s-preserved : goal.loop-s-preserved
-loop-s-preserved c =
-    let e = place_next _ _ _ _ _ c.loop-s-test.true (sym c.holds_word.ensures ∙ c.if-holds_word.false) in
-    (omega arith, sym (ap (under c.args.room) e) ∙ c.loop-s.invariant.1)
 
 pub returns : goal.returns
 returns c =
