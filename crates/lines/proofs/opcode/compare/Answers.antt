@@ -7,12 +7,6 @@ use Rattle.lines.proofs.opcode.compare.Goals as goal
 pub returns-in_err-when : goal.returns-in_err-when
 returns-in_err-when c = none_begins _ _ c.from_residual.ensures (λ o rest h. let i = compared _ o rest h in c.in_err-when.ensures.complete i.when _ i.whole)
 
-pub returns-in_err-first : goal.returns-in_err-first
-returns-in_err-first c = none_begins _ _ c.from_residual-in_err-first.ensures (λ o rest h.
-    let i = compared _ o rest h in
-    let e = c.in_ok-when.ensures.complete i.when _ i.whole in
-    c.in_err-first.ensures.complete i.first _ e.1)
-
 pub returns-in_err-after_word : goal.returns-in_err-after_word
 returns-in_err-after_word c = none_begins _ _ c.from_residual-in_err-after_word.ensures (λ o rest h.
     let i = compared _ o rest h in

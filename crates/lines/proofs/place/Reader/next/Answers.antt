@@ -1,13 +1,10 @@
 use Rattle.std.proofs.Common.{◌+◌, ◌-◌, length, take, drop, sym, refl, ap, ◌∙◌, subst, arith, length-drop}
 use Rattle.lines.specs.Tokens.{token_text, TokenAt}
-use Rattle.lines.proofs.Parts.{taken_length, left_behind}
+use Rattle.lines.proofs.Parts.{left_behind}
 use Rattle.lines.proofs.place.Reader.next.Goals as goal
 
 pub returns-in_err-token-clause-complete : goal.returns-in_err-token-clause-complete
 returns-in_err-token-clause-complete c = λ k rest h. rw c.from_residual.ensures (c.in_err-token.ensures.complete k rest (subst (λ t. TokenAt t k rest) (sym c.rest-text.ensures) h))
-
-pub overflow_sub-taken : goal.overflow_sub-taken
-overflow_sub-taken c = taken_length _ (token_text c.in_ok-token.token) _ c.in_ok-token.ensures.sound.whole
 
 pub returns : goal.returns
 returns c =
