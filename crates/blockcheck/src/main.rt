@@ -27,6 +27,7 @@ fn load<'a>(heap: Global, input: &'a [u8]) -> Result<Blocks, Fault<'a>> {
 }
 
 fn run(rt: &HostRuntime) -> anyhow::Result<()> {
+    // No `?`: a refusal is an answer, and is printed.
     let Some(input) = input::read(rt)? else {
         return refuse(rt, Refusal::BeyondLimit);
     };

@@ -1,11 +1,14 @@
--- Operations as text. Assumes nothing.
-use Rattle.std.specs.Prelude.{ℕ, cond, List, [], ◌++◌, codes, ◌==◌}
+-- Operations, and violated dependences, as text. Assumes nothing.
+use Rattle.std.specs.Prelude.{ℕ, cond, List, [], ◌++◌, codes, decimal, ◌==◌}
 use Rattle.std.specs.Fmt.{signed_decimal}
 use Rattle.opcodes.specs.declared.compare.Condition.{Condition}
 use Rattle.opcodes.specs.Texts.{binary_text, unary_text, condition_text, action_text}
 use Rattle.registers.specs.declared.banked.Banked.TheVariants as banked
 use Rattle.registers.specs.Registers.{Predicate}
-use Rattle.registers.specs.Texts.{general_text, predicate_text}
+use Rattle.registers.specs.Texts.{general_text, predicate_text, place_text}
+use Rattle.operations.specs.declared.refusal.Dependence.{Dependence}
+use Rattle.operations.specs.declared.refusal.Dependence.TheVariants.{Flow, Anti, Output, Memory}
+use Rattle.operations.specs.declared.refusal.Violation.{Violation}
 use Rattle.operations.specs.declared.operation.Source as source
 use Rattle.operations.specs.declared.operation.Source.{Source}
 use Rattle.operations.specs.declared.operation.Form.{Form}
@@ -39,3 +42,14 @@ guard_text (banked.Rotating n) = codes " if " ++ predicate_text (banked.Rotating
 
 abbrev pub operation_text : Operation → List ℕ
 operation_text x = form_text x.form ++ guard_text x.guard
+
+abbrev pub dependence_text : Dependence → List ℕ
+dependence_text Flow = codes "flow"
+dependence_text Anti = codes "anti"
+dependence_text Output = codes "output"
+dependence_text Memory = codes "memory"
+
+-- its kind, its place, the two operations, and the least cycle of the second
+abbrev pub violation_text : Violation → List ℕ
+violation_text v =
+    dependence_text v.dependence ++ (codes " " ++ (place_text v.place ++ (codes " " ++ (decimal v.first ++ (codes " " ++ (decimal v.second ++ (codes " needs " ++ decimal v.least)))))))

@@ -1,8 +1,9 @@
-// Operations as text.
+// Operations, and violated dependences, as text.
 ghost use Rattle.std.specs.Prelude.{Some};
-ghost use Rattle.operations.specs.Texts.{source_text, sources_text, compare_text, form_text, guard_text, operation_text};
+ghost use Rattle.operations.specs.Texts.{source_text, sources_text, compare_text, form_text, guard_text, operation_text, dependence_text, violation_text};
 
 use crate::operation::{Form, Operation, Source};
+use crate::refusal::{Dependence, Violation};
 use crate::targets::{Target, Targets};
 use opcodes::Condition;
 use registers::Predicate;
@@ -101,5 +102,31 @@ impl fmt::Display for Operation {
         let form = self.form;
         let guard = Guard(self.guard);
         write!(f, "{form}{guard}")
+    }
+}
+
+impl fmt::Display for Dependence {
+    ghost output = { λ k. Some (dependence_text k) };
+
+    fn fmt<W: fmt::Write>(&self, f: &mut fmt::Formatter<W>) -> fmt::Result {
+        match self {
+            Dependence::Flow => write!(f, "flow"),
+            Dependence::Anti => write!(f, "anti"),
+            Dependence::Output => write!(f, "output"),
+            Dependence::Memory => write!(f, "memory"),
+        }
+    }
+}
+
+// The kind of a dependence, its place, its operations and the least cycle.
+impl fmt::Display for Violation {
+    ghost output = { λ v. Some (violation_text v) };
+
+    fn fmt<W: fmt::Write>(&self, f: &mut fmt::Formatter<W>) -> fmt::Result {
+        write!(
+            f,
+            "{} {} {} {} needs {}",
+            self.dependence, self.place, self.first, self.second, self.least
+        )
     }
 }

@@ -5,6 +5,7 @@ ghost use Rattle.verdicts.specs.Listing.{answer_of};
 use checker::Verdict;
 use operations::Violation;
 
+// The cases of `Verdict` and one more, in one enum, so that whoever prints or numbers them has one `match`.
 #[derive(Clone, Copy)]
 pub enum Standing {
     Kept,
