@@ -31,6 +31,7 @@ fn sources(reader: &mut Reader) -> Option<WrittenSources>
     ensures { Reads (λ s rest. sources_text s (codes ")" ++ rest)) ShortSources (left reader.old) result (left reader.new) }
 {
     let first = expect(reader)?;
+    // A copy reads ahead, here and below: what becomes of it differs, so there is no function for it.
     let mut ahead = *reader;
     if marks(&mut ahead, &[Mark::Close]).is_some() {
         *reader = ahead;

@@ -16,6 +16,7 @@ use crate::written::{ProgramLine, WrittenExit, WrittenPosition};
 fn position(reader: &mut Reader) -> Option<Option<WrittenPosition>>
     ensures { Reads position_text ShortPosition (left reader.old) result (left reader.new) }
 {
+    // A copy reads ahead, here and below: what becomes of it differs, so there is no function for it.
     let mut ahead = *reader;
     if marks(&mut ahead, &[Mark::Unplaced]).is_some() {
         *reader = ahead;

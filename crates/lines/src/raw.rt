@@ -12,6 +12,7 @@ use blocks::RawExit;
 use operations::{Operand, RawOperation, UpToTwo};
 use registers::{RegisterName, handed};
 
+// `raw` here and below, and no `From`: a `From` has one fact of what it gives, and this has two, what it is and what it means.
 impl WrittenRegister {
     #[tactic(auto, using(crate::proofs::Meaning::register_kept))]
     pub fn raw(self) -> RegisterName
