@@ -1,4 +1,5 @@
 pub mod Registers
+pub mod Alike
 pub mod Names
 pub mod Writes
 pub mod Texts

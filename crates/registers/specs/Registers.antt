@@ -1,5 +1,5 @@
 -- Registers: their numbers, what the fixed ones read, which are places, and where the rotating ones are. Assumes nothing.
-use Rattle.std.specs.Prelude.{◌≡◌, ℕ, ◌+◌, ◌%◌, Bool, true, false, cond, ◌&&◌, is_some, Some, None, Option, ◌==◌, nat_lt, refl}
+use Rattle.std.specs.Prelude.{◌≡◌, ℕ, ◌+◌, ◌%◌, Bool, true, false, cond, Decides, ◌&&◌, is_some, Some, None, Option, ◌==◌, nat_lt, refl}
 use Rattle.std.proofs.Common.{arith, ltb-true}
 use Rattle.registers.specs.declared.number.NumberBelow.{NumberBelow}
 use Rattle.registers.specs.declared.banked.Banked.{Banked}
@@ -55,12 +55,20 @@ abbrev pub physical : {bits : ℕ} → RegisterNumber → Banked RegisterNumber 
 physical rrb (banked.Static n) = banked.Static n
 physical rrb (banked.Rotating n) = banked.Rotating (rotated n rrb)
 
+-- an answer that is this test, and tells whether a fact holds
+abbrev pub Tells : Bool → Bool → Type 0 → Type 0
+Tells test r P = (r ≡ test) × Decides r P
+
+-- two of one kind that are alike, where their numbers are by such a test
+abbrev pub alike : {N : Type 0} {bits : ℕ} → (N → N → Bool) → Banked N bits → Banked N bits → Bool
+alike test (banked.Static m) (banked.Static n) = test m n
+alike test (banked.Static m) (banked.Rotating n) = false
+alike test (banked.Rotating m) (banked.Static n) = false
+alike test (banked.Rotating m) (banked.Rotating n) = test m n
+
 -- two registers of one kind that are one
 abbrev pub same : {bits : ℕ} → Banked RegisterNumber bits → Banked RegisterNumber bits → Bool
-same (banked.Static m) (banked.Static n) = m.number == n.number
-same (banked.Static m) (banked.Rotating n) = false
-same (banked.Rotating m) (banked.Static n) = false
-same (banked.Rotating m) (banked.Rotating n) = m.number == n.number
+same = alike (λ m n. m.number == n.number)
 
 abbrev pub same_predicate : Predicate → Predicate → Bool
 same_predicate = same

@@ -2,7 +2,7 @@
 use crate::number::RegisterNumber;
 
 // A register of `BITS` bits, static or rotating, by a number of type `N`.
-#[derive(Clone, Copy, PartialEq, Eq, Debug)]
+#[derive(Clone, Copy, Debug)]
 pub enum Banked<N, const BITS: usize> {
     Static(N),
     Rotating(N),

@@ -6,6 +6,7 @@ mod equality;
 mod names;
 mod number;
 mod register;
+mod same;
 mod text;
 mod write;
 
@@ -14,4 +15,5 @@ pub use equality::equality_tells;
 pub use names::{RegisterName, handed};
 pub use number::{NumberBelow, RegisterNumber};
 pub use register::{Place, Register};
+pub use same::Telling;
 pub use write::Write;

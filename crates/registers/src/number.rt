@@ -1,7 +1,7 @@
 // Numbers below a limit.
 ghost use Rattle.std.specs.Prelude.{◌≡◌, ◌<◌};
 
-#[derive(Clone, Copy, PartialEq, Eq, Debug)]
+#[derive(Clone, Copy)]
 pub struct NumberBelow<const LIMIT: u8> {
     pub number: u8,
     ghost below: { number < LIMIT },

@@ -8,14 +8,14 @@ use crate::number::{NumberBelow, RegisterNumber};
 // How many registers a bank has.
 const REGISTERS: u8 = 32;
 
-#[derive(Clone, Copy, PartialEq, Eq, Debug)]
+#[derive(Clone, Copy, Debug)]
 pub enum Register {
     General(General),
     Predicate(Predicate),
 }
 
 // What can be written and read back: a register that is no constant, or the memory as a whole.
-#[derive(Clone, Copy, PartialEq, Eq, Debug)]
+#[derive(Clone, Copy, Debug)]
 pub enum Place {
     Register(Register),
     Memory,

@@ -15,6 +15,18 @@ impl<const LIMIT: u8> fmt::Display for NumberBelow<LIMIT> {
     }
 }
 
+// What a register number is called: 32 of them are a bank's. By hand, since a derive would write the name that all limits share.
+impl<const LIMIT: u8> fmt::Debug for NumberBelow<LIMIT> {
+    fn fmt<W: fmt::Write>(&self, f: &mut fmt::Formatter<W>) -> fmt::Result {
+        let name = if LIMIT == 32 {
+            "RegisterNumber"
+        } else {
+            "NumberBelow"
+        };
+        f.debug_struct(name).field("number", &self.number).finish()
+    }
+}
+
 // One impl for both kinds would have to find a letter for every width.
 impl fmt::Display for General {
     ghost output = { λ g. Some (general_text g) };
