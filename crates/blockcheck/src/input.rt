@@ -8,15 +8,26 @@ const DIVIDER: &[u8] = b"program";
 // Two texts, and the line between them with its newline.
 const MOST: usize = LIMIT + 8 + LIMIT;
 
+const CHUNK: usize = 4096;
+
 // All of the input; None where there is more than two texts may have. At most one byte more than that is read.
+// By chunks, and not by `take` and `read_to_end`: here the check holds the bound (without a bound it refuses the loop), and no room is made before the end is seen.
 pub(crate) fn read(rt: &HostRuntime) -> anyhow::Result<Option<Vec<u8>>> {
+    let mut input = rt.stdin();
     let mut all = Vec::new(rt.alloc());
-    // `as`, for std has no `From` of a `usize` for `u64`.
-    rt.stdin().take(MOST as u64 + 1).read_to_end(&mut all)?;
-    if all.len() > MOST {
-        return Ok(None);
+    let mut chunk = [0u8; CHUNK];
+    for _ in 0..MOST + 2 {
+        let room = MOST + 1 - all.len();
+        let n = input.read(&mut chunk[..room.min(CHUNK)])?;
+        if n == 0 {
+            return Ok(Some(all));
+        }
+        all.extend_from_slice(&chunk[..n])?;
+        if all.len() > MOST {
+            return Ok(None);
+        }
     }
-    Ok(Some(all))
+    Ok(None)
 }
 
 // The texts before and behind the first line `program`. Without that line the input is refused, for its length where it is longer than a text may be.
