@@ -50,13 +50,13 @@ module _ (d : Description) (es : List Entry) (ps : List Placed) (long : length p
               subst P (sym (get_or-take n ps i o (omega (arith, l)))) (seen.each i o (omega (arith, l)));
         }
 
-    right_kept : AllKept (take n ps) (length (take n ps)) → Right d es Kept
+    pub right_kept : AllKept (take n ps) (length (take n ps)) → Right d es Kept
     right_kept all = record {
       kept = (λ _. (kept_is_always_same_lem (program_of d es) (schedule_of es) sound).0 (kept_from _ _ (take n ps) as_seen all), λ _. refl);
       shows = λ w e. violated_kept w (sym e);
     }
 
-    right_violated : (last : ℕ) → last + 1 ≡ length (slots_of d.slots) → (v : Violation) → Found last (take n ps) v → Right d es (Violated v)
+    pub right_violated : (last : ℕ) → last + 1 ≡ length (slots_of d.slots) → (v : Violation) → Found last (take n ps) v → Right d es (Violated v)
     right_violated last slots v f =
         let in_slots : (i : ℕ) → i < length es → (schedule_of es).slot i ≤ last =
         λ i h. let k = in_machine (slots_of d.slots) es i (well.fit i) (seen.placed i h) in omega arith in
@@ -73,7 +73,7 @@ module _ (d : Description) (es : List Entry) (ps : List Placed) (long : length p
               subst Q same h;
         }
 
-judged : (d : Description) (es : List Entry) (v : Verdict) → unplaced_lowest es ≡ None → Right d es v → Judged d es (Ok v)
+pub judged : (d : Description) (es : List Entry) (v : Verdict) → unplaced_lowest es ≡ None → Right d es v → Judged d es (Ok v)
 judged d es v e right =
     let P : Option ℕ → Type 0 = λ o. JudgedWith o d es (Ok v) in
     subst P (sym e) (v, refl, right)

@@ -49,11 +49,11 @@ module _ {T : Type 0} where
   abbrev pub Given : (T → List ℕ) → List T → List ℕ → Option (T × Bor (List ℕ)) → Type 0
   Given word xs t r = MatchOption r (worded word xs t ≡ None) (λ x. worded word xs t ≡ Some (x.0, x.1.now))
 
-  given_sound : (word : T → List ℕ) (xs : List T) (t : List ℕ) (r : Option (T × Bor (List ℕ))) → Given word xs t r → IfSome r (λ x. t ≡ word x.0 ++ x.1.now)
+  pub given_sound : (word : T → List ℕ) (xs : List T) (t : List ℕ) (r : Option (T × Bor (List ℕ))) → Given word xs t r → IfSome r (λ x. t ≡ word x.0 ++ x.1.now)
   given_sound word xs t None g = tt
   given_sound word xs t (Some x) g = worded_sound word xs t x.0 x.1.now g
 
-  given_only : (word : T → List ℕ) (xs : List T) (t : List ℕ) (r : Option (T × Bor (List ℕ))) → Given word xs t r → (o : T) (rest : List ℕ) → worded word xs t ≡ Some (o, rest) → MatchOption r ⊥ (λ x. (x.0 ≡ o) × (x.1.now ≡ rest))
+  pub given_only : (word : T → List ℕ) (xs : List T) (t : List ℕ) (r : Option (T × Bor (List ℕ))) → Given word xs t r → (o : T) (rest : List ℕ) → worded word xs t ≡ Some (o, rest) → MatchOption r ⊥ (λ x. (x.0 ≡ o) × (x.1.now ≡ rest))
   given_only word xs t None g o rest e = nothing (worded word xs t) o rest g e
   given_only word xs t (Some x) g o rest e = the_same (worded word xs t) x.0 o x.1.now rest g e
 

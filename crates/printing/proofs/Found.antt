@@ -18,7 +18,7 @@ abbrev lines_at : ℕ → Body → List ℕ
 lines_at n b = lines_text (cond (used b) (block_lines n b) [])
 
 -- a block that is not used is passed over
-passed : (n : ℕ) (b : Body) (a : List ℕ) → false ≡ used b → (a ≡ a ++ lines_at n b) × AllByRecursion Held b.entries
+pub passed : (n : ℕ) (b : Body) (a : List ℕ) → false ≡ used b → (a ≡ a ++ lines_at n b) × AllByRecursion Held b.entries
 passed n b a u = subst (λ (c : Body). (a ≡ a ++ lines_at n c) × AllByRecursion Held c.entries) (sym (unused b.entries b.exit (sym u))) (sym (append-nil a), tt)
 
 used_printed : (n : ℕ) (b : Body) (a t : List ℕ) → true ≡ used b → (t ≡ a ++ block_text n b) × AllByRecursion Held b.entries → (t ≡ a ++ lines_at n b) × AllByRecursion Held b.entries

@@ -43,10 +43,10 @@ abbrev pub plain : List ℕ → Bool
 plain bs = list_all (λ b. not (eqb b 10)) bs
 
 -- a line that ends is the first line
-line_first : (l rest : List ℕ) → plain l ≡ true → lines_of (l ++ 10 ∷ rest) ≡ l ∷ lines_of rest
+pub line_first : (l rest : List ℕ) → plain l ≡ true → lines_of (l ++ 10 ∷ rest) ≡ l ∷ lines_of rest
 line_first l rest h = line_before l rest (λ k lt e. false≢true (ap (λ b. not (eqb b 10)) (sym e) ∙ AllPass-from_list_all (λ b. not (eqb b 10)) l h k 0 lt))
 
-plain_append : (a b : List ℕ) → plain a ≡ true → plain b ≡ true → plain (a ++ b) ≡ true
+pub plain_append : (a b : List ℕ) → plain a ≡ true → plain b ≡ true → plain (a ++ b) ≡ true
 plain_append a b p q = list_all-append (λ c. not (eqb c 10)) a b ∙ ap₂ (λ s t. s && t) p q
 
 plain_digits : (ds : List ℕ) → AllDigits 10 ds → plain ds ≡ true
@@ -131,7 +131,7 @@ plain_exit (Goto t) h = plain_decimal t h
 plain_exit (If p t) h = plain_append (predicate_name_text p) _ (plain_predicate p h.0) (plain_decimal t h.1)
 plain_exit (Loop t) h = plain_decimal t h
 
-plain_line : (w : ProgramLine) → ShortProgram w → plain (program_line_text w) ≡ true
+pub plain_line : (w : ProgramLine) → ShortProgram w → plain (program_line_text w) ≡ true
 plain_line (line.Block n) h = plain_decimal n h
 plain_line (line.Operation p w) h = plain_position p (written_text w) h.0 (plain_written w h.1)
 plain_line (line.Exit x) h = plain_exit x h

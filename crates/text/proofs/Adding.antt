@@ -12,10 +12,10 @@ use Rattle.lines.specs.Raw.{raw_operation, literals_held}
 use Rattle.text.specs.Programs.{slot_there, placed_at, then_placed, operation_call}
 use Rattle.text.proofs.Placing.{told}
 
-told_ok : {X S : Type 0} (s t : S) (r : Result X Refusal) (o : Outcome X S) (x : X) → Did s t r o → r ≡ Ok x → o ≡ Ok (x, t)
+pub told_ok : {X S : Type 0} (s t : S) (r : Result X Refusal) (o : Outcome X S) (x : X) → Did s t r o → r ≡ Ok x → o ≡ Ok (x, t)
 told_ok s t r o x did is = MatchResult-at_ok (λ y. o ≡ Ok (y, t)) (λ e. o ≡ Err e) x is (told s t r o did)
 
-told_err : {X S : Type 0} (s t : S) (r : Result X Refusal) (o : Outcome X S) (e : Refusal) → Did s t r o → r ≡ Err e → o ≡ Err e
+pub told_err : {X S : Type 0} (s t : S) (r : Result X Refusal) (o : Outcome X S) (e : Refusal) → Did s t r o → r ≡ Err e → o ≡ Err e
 told_err s t r o e did is = MatchResult-at_err (λ y. o ≡ Ok (y, t)) (λ d. o ≡ Err d) e is (told s t r o did)
 
 operation_is : (s : State) (n : ℕ) (q : Option WrittenPosition) (w : WrittenOperation) (raw : RawOperation) (o : Outcome ℕ State) (h : Bool) → true ≡ slot_there s q → raw ≡ raw_operation w → add_call s n raw ≡ o → h ≡ literals_held w.sources → operation_call s n q w ≡ then_placed n q h o

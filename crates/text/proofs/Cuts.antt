@@ -8,14 +8,14 @@ use Rattle.std.proofs.lemmas.List.Sums.{fails_before_first}
 use Rattle.std.proofs.lemmas.List.{take_rest, drop_more, get_or-take, length-take-le}
 use Rattle.text.specs.Texts.{NoNewline, longer, lines_of}
 
-cut_at : (t : List ℕ) (i : ℕ) → i < length t → get_or t i 0 ≡ 10 → t ≡ take i t ++ 10 ∷ take (length t - (i + 1)) (drop (i + 1) t)
+pub cut_at : (t : List ℕ) (i : ℕ) → i < length t → get_or t i 0 ≡ 10 → t ≡ take i t ++ 10 ∷ take (length t - (i + 1)) (drop (i + 1) t)
 cut_at t i h e =
     sym (take-append-drop i t)
     ∙ ap (λ l. take i t ++ l) (drop_more t i 0 h)
     ∙ ap (λ b. take i t ++ b ∷ drop (i + 1) t) e
     ∙ ap (λ l. take i t ++ 10 ∷ l) (sym (take_rest t (i + 1)))
 
-front_plain : (t : List ℕ) (i : ℕ) → i ≤ length t → ((k : ℕ) → k < i → eqb (get_or t k 0) 10 ≡ false) → NoNewline (take i t)
+pub front_plain : (t : List ℕ) (i : ℕ) → i ≤ length t → ((k : ℕ) → k < i → eqb (get_or t k 0) 10 ≡ false) → NoNewline (take i t)
 front_plain t i h none k lt e =
     let l : k < i = omega (arith, length-take-le i t (omega arith)) in
     eqb-false (get_or t k 0) 10 (none k l) (sym (get_or-take i t k 0 (omega arith)) ∙ e)

@@ -29,7 +29,7 @@ slot_beyond ss b i c k h = grind arith
 cycle_beyond : (ss : List Slot) (b : Body) (i c k : ℕ) → ltb c 1024 ≡ false → place_step ss b i c k ≡ cond (ltb i (length b.entries) && ltb k (length ss)) (Err BeyondLimit) (Err NoSuch)
 cycle_beyond ss b i c k h = ap (λ t. cond (ltb i (length b.entries) && ltb k (length ss)) (cond t (cond (takes_class ss k (class_at b.entries i)) (move_to b i (position_at c k)) (Err ClassNotTaken)) (Err BeyondLimit)) (Err NoSuch)) h
 
-few_slots : (s : Slots) → length (slots_of s) ≤ 8
+pub few_slots : (s : Slots) → length (slots_of s) ≤ 8
 few_slots s = omega (arith, length-take-le s.count s.slots, s.few, s.whole)
 
 by_cycle : (ss : List Slot) (b : Body) (i c k : ℕ) (t : Bool) → ltb c 1024 ≡ t → place_step ss b i (min c 1024) k ≡ place_step ss b i c k
@@ -42,7 +42,7 @@ by_slot ss b i c k false few h =
     let l = ltb-false k 8 h in
     slot_beyond ss b i c (min k 8) (le-ltb (min k 8) (length ss) (omega arith)) ∙ sym (slot_beyond ss b i c k (le-ltb k (length ss) (omega arith)))
 
-place_same : (s : State) (n i c k : ℕ) → place_call s n i (min c 1024) (min k 8) ≡ place_call s n i c k
+pub place_same : (s : State) (n i c k : ℕ) → place_call s n i (min c 1024) (min k 8) ≡ place_call s n i c k
 place_same s n i c k =
     let ss = slots_of s.description.slots in
     let b = body_at s n in
