@@ -18,7 +18,8 @@ impl Slot {
         ensures { result ≡ slot_taking integer memory compare }
     {
         // No `then`: a closure that makes a slot would have to require this test once more.
-        if integer || memory || compare {
+        let some = integer || memory || compare;
+        if some {
             Some(Slot {
                 integer,
                 memory,
