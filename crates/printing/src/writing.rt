@@ -3,7 +3,8 @@ ghost use Rattle.std.specs.Prelude.{◌≡◌, ◌<◌, ◌≤◌, ◌++◌, str
 ghost use Rattle.std.specs.List.{AllByRecursion};
 ghost use Rattle.blocks.specs.Calls.{body_at};
 ghost use Rattle.blocks.specs.Whole.{state_of};
-ghost use Rattle.printing.specs.Sets.{used, block_text};
+ghost use Rattle.lines.specs.declared.written.ProgramLine.TheVariants as line;
+ghost use Rattle.printing.specs.Sets.{line_ended, used, block_text};
 ghost use Rattle.printing.specs.Printed.{Held, contents_of};
 
 use crate::literals;
@@ -16,6 +17,13 @@ use std::alloc::AllocError;
 pub(crate) struct Contents<'a> {
     pub(crate) entries: &'a [Entry],
     pub(crate) exit: Exit,
+}
+
+// The line that a block begins with.
+fn write_head(out: &mut String, block: u8) -> Result<(), AllocError>
+    ensures { OnOk result (string_bytes out.new ≡ string_bytes out.old ++ line_ended (line.Block block)) }
+{
+    writeln!(out, "block {block}")
 }
 
 impl<'a> Contents<'a> {
@@ -40,7 +48,7 @@ impl<'a> Contents<'a> {
     pub(crate) fn write(self, out: &mut String, block: u8) -> Result<(), AllocError>
         ensures { OnOk result ((string_bytes out.new ≡ string_bytes out.old ++ block_text block (contents_of self.entry)) × AllByRecursion Held (contents_of self.entry).entries) }
     {
-        writeln!(out, "block {block}")?;
+        write_head(out, block)?;
         for entry in self.entries {
             literals::held(entry.operation.form);
             writeln!(out, "{}", EntryLine(*entry))?;
