@@ -11,7 +11,7 @@ const MOST: usize = LIMIT + 8 + LIMIT;
 const CHUNK: usize = 4096;
 
 // All of the input; None where there is more than two texts may have. At most one byte more than that is read.
-// By chunks, and not by `take` and `read_to_end`: here the check holds the bound (without a bound it refuses the loop), and no room is made before the end is seen.
+// By chunks, and not by `take` and `read_to_end`: here the check refuses a loop without a bound (it does not tell the last byte), and no room is made for bytes that do not come.
 pub(crate) fn read(rt: &HostRuntime) -> anyhow::Result<Option<Vec<u8>>> {
     let mut input = rt.stdin();
     let mut all = Vec::new(rt.alloc());
